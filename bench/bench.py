@@ -4,8 +4,8 @@
 Without --text it makes a log of the symbols that crates/demangle_corpus/stdin has.
 For each program it prints lines a second (the best of five runs) and instructions a line, counted by
 `valgrind --tool=callgrind` over each 21st line, with those of a run on no input taken off; without valgrind it prints
-`-` for these. With --save it writes the text that it makes, and runs nothing. With --scheme the text has the symbols of one scheme
-alone. With --rates it prints megabytes a second of processor time (the best of five runs) over three texts of which most is no symbol,
+`-` for these. With --save it writes the text that it makes, and runs nothing. With --scheme the text has only the symbols of one
+scheme. With --rates it prints megabytes a second of processor time (the best of five runs) over three texts that have few symbols,
 and how many times as fast as demangle_filter that is; `cat` and `grep -c _R` are run for comparison.
 `make` builds the programs.
 """
@@ -26,7 +26,7 @@ def text_of(given):
 
 
 def rate_texts():
-    """Texts of which most is no symbol, by name: each some lines, which are repeated."""
+    """Texts that have few symbols, by name. Each is some lines, which are repeated."""
     found = list(symbols("all"))
     plain = [PLAIN.format(n=n) for n in range(100 * len(found))]
     yield "no symbol", plain
@@ -37,7 +37,7 @@ def rate_texts():
 
 
 def print_rates(size, also):
-    """Megabytes a second of processor time, over texts of so many megabytes."""
+    """Megabytes a second of processor time, over texts of that many megabytes."""
     programs = [("kodliwe", [KODLIWE]), ("demangle_filter", [FILTER]), ("cat", ["cat"]), ("grep -c _R", ["grep", "-c", "_R"])]
     programs += list(others()) + also
     print("| text | program | MB a second | times demangle_filter |")
@@ -51,7 +51,7 @@ def print_rates(size, also):
             megabytes = os.path.getsize(file.name) / 1_000_000
             took = {program: processor_seconds(command, file.name) for program, command in programs}
         for program, seconds_taken in took.items():
-            # A text so short that a program's time can't be told has no rate.
+            # A text that is too short to measure a program's time has no rate.
             rate = "{:,.0f}".format(megabytes / seconds_taken) if seconds_taken else "-"
             times = "%.2f" % (took["demangle_filter"] / seconds_taken) if seconds_taken else "-"
             print("| %s | %s | %s | %s |" % (name, program, rate, times), flush=True)

@@ -1,10 +1,10 @@
 #!/usr/bin/env python3
-"""Measures the library for C that `make` built, also through Python and beside the Rust crate.
+"""Measures the library for C that `make` built, alone, through Python, and next to the Rust crate.
 
 It prints the processor time of 100,000 real symbols through bindings/python, and the longest call for a hostile tree whose output and
-limit are 4,096 bytes. With --rust-crate, the folder of the Rust crate rustc-demangle, it asks both libraries from one Rust program for
-each stored symbol, tells how many are answered otherwise, and prints the instructions of a call (`valgrind --tool=callgrind`, three
-turns less one) for the real legacy and v0 symbols.
+limit are 4,096 bytes. With --rust-crate, the folder of the Rust crate rustc-demangle, one Rust program calls both libraries for each
+stored symbol. It prints how many results differ, and the instructions of a call (`valgrind --tool=callgrind`, three iterations less
+one) for the real legacy and v0 symbols.
 """
 import argparse, os, shutil, sys, tempfile
 

@@ -1,23 +1,23 @@
 #!/usr/bin/env python3
 """Measures single calls of the library: nanoseconds, instructions, and bytes of stack.
 
-It makes a copy of the library's crates outside the repository, with their folders out, and beside it a program that makes
-one call as many times as it is told, and builds that by `rt run`. Each call stands in a function that is not inlined, and is
-given one of two equal texts in turn, so that no turn can be left out. It needs the Rattle kit and valgrind.
+It makes a copy of the library's crates outside the repository, with their folders `out`. Next to it, it makes a program that
+repeats one call, and builds that by `rt run`. Each call is in a function that is not inlined. The iterations alternate between two
+equal texts, so that the compiler omits none. It needs the Rattle kit and valgrind.
 
-Nanoseconds: the program runs with k turns and with 10 k, and the difference of the seconds (each the best of nine runs, between
-which those of the other calls stand) is divided by 9 k; what turns without a call take is taken off. Printing has the making of its
-empty sink in it. The symbols are the
-legacy one and the v0 one of middle length of those that crates/demangle_corpus/stdin has from libraries and programs, and a
-v0 one that is deep: 490 references in one another, and a back reference. With --rust-crate the same loop runs over the Rust crate
-rustc-demangle: its `try_demangle`, and its `Display` into an array of 1,024 bytes, built by cargo outside the repository.
+Nanoseconds: the program runs with k iterations and with 10 k. The difference of the seconds (each the best of nine runs, which
+alternate with those of the other calls) is divided by 9 k. The time of iterations without a call is subtracted. Printing includes
+the creation of its empty sink. The symbols are the legacy one and the v0 one of middle length of those that
+crates/demangle_corpus/stdin has from libraries and programs, and a deep v0 one: 490 nested references, and a back reference. With
+--rust-crate the same loop runs over the Rust crate rustc-demangle: its `try_demangle`, and its `Display` into an array of 1,024
+bytes, built by cargo outside the repository.
 
-Instructions: `valgrind --tool=callgrind` over 100 turns and over 600, less those of turns without a call.
+Instructions: `valgrind --tool=callgrind` over 100 iterations and over 600, less those of iterations without a call.
 
-Bytes of stack: `valgrind --tool=drd --show-stack-usage=yes` over one turn, less those of a turn without a call. What a call is
-handed (the text, the value, the sink) is not counted. The calls are made below an array of 512 KB, so that what was called
-before, to make the value that is printed, does not count. 60 tuples in one another are the symbol that fills the short row of
-frames, so that the long one is made.
+Bytes of stack: `valgrind --tool=drd --show-stack-usage=yes` over one iteration, less those of an iteration without a call. The
+arguments of a call (the text, the value, the sink) are not counted. The calls are made below an array of 512 KB, so earlier calls,
+which make the value that is printed, do not count. 60 nested tuples are the symbol that fills the first stack of frames, so that
+the next one is created.
 """
 import argparse, os, re, subprocess, sys, tempfile, time
 
@@ -43,11 +43,11 @@ CALLS = [
 RUST_TIMED = ["try_demangle", "Display into an array"]
 # Each tuple leaves a frame while the one in it is read.
 TUPLES = "_RMC0" + 60 * "T" + "u" + 60 * "E"
-# At least so many seconds for the longer run, and so many runs of each, of which the best counts.
+# The least seconds of the longer run, and the number of runs of each, of which the best counts.
 LONG = 0.5
 ROUNDS = 9
 
-PROGRAM = """//! Makes a call of the library, as often as it is told.
+PROGRAM = """//! Repeats a call of the library.
 #![tactic(auto)]
 
 ghost use Rattle.std.specs.Prelude.{◌≡◌, false, ◌<◌};
@@ -125,7 +125,7 @@ fn call_demangle_stream_named(alloc: Global, input: &mut &[u8], output: &mut Vec
     if rustc_demangle::demangle_stream_named(alloc, input, output, true).is_ok() { 1 } else { 0 }
 }
 
-// One turn of a call that prints a symbol.
+// One iteration of a call that prints a symbol.
 fn print(alloc: Global, call: usize, symbol: &Demangle<'_>) -> usize {
     let mut sink: ArraySink<1024> = ArraySink::new();
     let mut text = String::new(alloc);
@@ -140,7 +140,7 @@ fn print(alloc: Global, call: usize, symbol: &Demangle<'_>) -> usize {
     done.wrapping_add(sink.as_str().len()).wrapping_add(text.len())
 }
 
-// One turn of a call that writes into memory.
+// One iteration of a call that writes into memory.
 fn write(alloc: Global, call: usize, text: &str, symbol: &Demangle<'_>) -> usize {
     let mut output = Vec::new(alloc);
     let mut input = text.as_bytes();
@@ -152,7 +152,7 @@ fn write(alloc: Global, call: usize, text: &str, symbol: &Demangle<'_>) -> usize
     done.wrapping_add(output.len())
 }
 
-// One turn.
+// One iteration.
 fn turn(alloc: Global, call: usize, text: &str, symbol: &Demangle<'_>) -> usize {
     match call {
         0 => text.len(),
@@ -219,7 +219,7 @@ fn main(rt: HostRuntime) -> ExitCode {
 }
 """
 
-RUST_PROGRAM = """//! Makes a call of rustc-demangle, as often as it is told.
+RUST_PROGRAM = """//! Repeats a call of rustc-demangle.
 use rustc_demangle::{try_demangle, Demangle};
 use std::fmt::{Result, Write};
 use std::hint::black_box;
@@ -272,7 +272,7 @@ fn main() {
 
 
 def built_rust(folder, crate):
-    """Makes the same program over the Rust crate, and answers its path."""
+    """Makes the same program over the Rust crate, and returns its path."""
     project = os.path.join(folder, "rust_calls")
     os.makedirs(os.path.join(project, "src"))
     with open(os.path.join(project, "src", "main.rs"), "w") as file:
@@ -288,7 +288,7 @@ def built_rust(folder, crate):
 
 
 def built(folder, jobs):
-    """Makes the program, and answers its path."""
+    """Makes the program, and returns its path."""
     copy_library(folder, "calls")
     source = os.path.join(folder, "crates", "calls", "src")
     os.makedirs(source)
@@ -317,7 +317,7 @@ def run_seconds(program, call, turns, text):
 
 
 def turns_of(program, call, text):
-    """So many turns that ten times as many take at least LONG."""
+    """A number of iterations, such that ten times as many take at least LONG."""
     turns = 100
     while run_seconds(program, call, 10 * turns, text) < LONG:
         turns *= 3
@@ -325,7 +325,7 @@ def turns_of(program, call, text):
 
 
 def nanoseconds(calls, symbol):
-    """What a turn of each call takes, with its loop. The calls run one after another in each of ROUNDS rounds."""
+    """The time of an iteration of each call, with its loop. The calls run in sequence in each of ROUNDS rounds."""
     text = (symbol + "\n").encode() * 2
     turns = [turns_of(program, call, text) for program, call in calls]
     runs = [(program, call, count) for (program, call), few in zip(calls, turns) for count in (few, 10 * few)]
@@ -335,14 +335,14 @@ def nanoseconds(calls, symbol):
 
 
 def turn_instructions(calls, symbol):
-    """What a turn of each call takes, with its loop."""
+    """The instructions of an iteration of each call, with its loop."""
     text = (symbol + "\n").encode() * 2
     counted = [[instructions([program, str(call), turns], text) for turns in ("100", "600")] for program, call in calls]
     return [(many - few) // 500 for few, many in counted]
 
 
 def print_table(title, measured, rows, symbols):
-    """A line for each row (a name, a program, a call), less what a turn without a call takes."""
+    """A line for each row (a name, a program, a call), less the cost of an iteration without a call."""
     programs = list(dict.fromkeys(program for _, program, _ in rows))
     calls = [(program, 0) for program in programs] + [(program, call) for _, program, call in rows]
     columns = []

@@ -1,5 +1,5 @@
 #!/usr/bin/env python3
-"""Measures the Rust crate that is made from the source beside the published crate and the proved archive.
+"""Measures the Rust crate that is made from the source, the published crate and the proved archive.
 
 It builds one program with all three, by `rust/`'s release profile, and prints two tables. The first has instructions, counted by
 `valgrind --tool=callgrind`, three rounds less one: of `try_demangle` and then `{}` for a v0 symbol of the Rust compiler's library and
@@ -36,7 +36,7 @@ def program(crate):
 
 
 def counted(command, job, text, count):
-    """Returns the instructions for one of so many symbols or lines."""
+    """Returns the instructions for one of that many symbols or lines."""
     by = {}
     for which in NAMES:
         if job == "text" and which == "theirs" and not rust_clients.has_streams():

@@ -3,7 +3,7 @@
 
 Each symbol is one line of standard input. It prints a Markdown table with a row for each symbol; for each program it has
 the seconds from start to end, the peak memory of the process (its greatest resident set) and the bytes that it wrote,
-or how it ended where it did not end well. A program is killed after the timeout. demangle_filter runs again with its
+or how it failed. A program is killed after the timeout. demangle_filter runs again with its
 stack limited. `make` builds it.
 """
 import argparse, ctypes, os, signal, subprocess, tempfile, threading, time
@@ -12,7 +12,7 @@ from measuring import FILTER, further, need_programs, others
 from texts import hostile
 
 # The shell ends, and leaves the program to this process as a child, which starts when the gate opens. A child that this
-# process forks itself would have the memory of Python up to its exec counted as its own.
+# process forks itself would be charged for the memory of Python until its exec.
 START = '{ read -r go <gate; ulimit -S -s "$1"; shift; exec "$@" <given 2>/dev/null; } >out & echo $!'
 PR_SET_CHILD_SUBREAPER = 36
 # In kilobytes.

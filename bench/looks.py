@@ -1,19 +1,18 @@
 #!/usr/bin/env python3
-"""Counts the looks that demangling and printing costly symbols takes, and prints them beside the bounds that are proved.
+"""Counts the looks of demangling and printing costly symbols, and prints them next to the bounds that are proved.
 
-Looks take no bytes when a program runs, so no program can tell them. This makes a copy of the library's crates outside the
-repository in which `Looks` also has a number of 64 bits that each `tick` raises, and a program over it that sums the looks
-of each symbol of a line. `rt run` proves the copy, with all its contracts but one fact, that `Looks` takes no bytes, and
-builds it (it took 12 to 18 minutes with one job, on a loaded machine). That the number is the count of which the contracts speak
-stands in the text below, and is not proved. `rt try` needs no proof, but its checks make a costly symbol take over a minute.
-It needs the Rattle kit.
+Looks have no bytes at run time, so no program can count them. This makes a copy of the library's crates outside the repository
+in which `Looks` also has a number of 64 bits that each `tick` raises. A program over the copy sums the looks of each symbol of a
+line. `rt run` proves the copy and builds it (in 12 to 18 minutes with one job, on a loaded machine). All contracts hold in it,
+except the fact that `Looks` has no bytes. That the number is the count of the contracts follows from the text below, and is not
+proved. `rt try` needs no proof, but its checks make a costly symbol take over a minute. It needs the Rattle kit.
 
 The symbols are those of bench/hostile.py, and 10^6 of each further production that nests. It prints a Markdown table with a row for
-each: the bytes m that are handed in, the bytes n of the value, the looks of `demangle_counted` and their bound, 64 x (m + 1),
-the bytes w that are kept before the marker, the looks of `write_counted` with the hash and their bound: for a v0 symbol
-100,000 x (w + 1) x (n + 1), for a legacy one 16 x (n + 1), for a text that is no symbol 0. Of a line of many symbols each
-column is the sum. It ends with how near the looks of the doublings come to their bounds, of each number of tuples up to 58.
-Its status is 1 where a bound is passed.
+each: the bytes m of the given text, the bytes n of the value, the looks of `demangle_counted` and their bound, 64 x (m + 1),
+the bytes w that are kept before the marker, the looks of `write_counted` with the hash and their bound. The bound is
+100,000 x (w + 1) x (n + 1) for a v0 symbol, 16 x (n + 1) for a legacy one, and 0 for a text that is not a symbol. For a line of
+many symbols, each column is the sum. It ends with how near the looks of the doublings come to their bounds, for each number of
+tuples up to 58. Its status is 1 if a bound is exceeded.
 """
 import argparse, os, subprocess, sys, tempfile
 
@@ -24,13 +23,13 @@ MOST_TUPLES = 58
 
 # The file of `Looks`, in the crate that has it.
 LOOKS = os.path.join("src", "cursor", "looks.rt")
-# What is put into its text, behind a line of it or in place of one.
+# The changes of its text: lines that are added or replaced.
 EDITS = [
-    ("    count: Snapshot<Tally>,\n", "    count: Snapshot<Tally>,\n    number: u64,\n"),
-    ("            count: Snapshot::of(&Tally::Zero),\n", "            count: Snapshot::of(&Tally::Zero),\n            number: 0,\n"),
+    ("    count: Snapshot<Unary>,\n", "    count: Snapshot<Unary>,\n    number: u64,\n"),
+    ("            count: Snapshot::of(&Unary::Zero),\n", "            count: Snapshot::of(&Unary::Zero),\n            number: 0,\n"),
     (
-        "        self.count = Snapshot::of(&Tally::More(before));\n    }\n",
-        "        self.count = Snapshot::of(&Tally::More(before));\n        self.number = self.number.wrapping_add(1);\n    }\n\n"
+        "        self.count = Snapshot::of(&Unary::More(before));\n    }\n",
+        "        self.count = Snapshot::of(&Unary::More(before));\n        self.number = self.number.wrapping_add(1);\n    }\n\n"
         "    /// How many there are.\n    pub fn number(&self) -> u64 {\n        self.number\n    }\n",
     ),
     ("\nconst _: () = prove!(mem::size_of::<Looks>() == 0);\n", ""),
@@ -44,7 +43,7 @@ use rustc_demangle::{Looks, demangle_counted, try_demangle};
 use std::io;
 use std::io::{BufRead, BufReader, Write};
 
-/// Counts the bytes that it is handed, but for those of the marker.
+/// Counts the bytes that it receives, except those of the marker.
 #[derive(Drop)]
 struct Counter {
     bytes: u64,
@@ -63,7 +62,7 @@ impl Write for Counter {
     }
 }
 
-/// The sums over a line: the bytes handed in, the values' bytes, the bytes kept, and the looks and their bounds.
+/// The sums over a line: the bytes of the given texts, of the values and of the kept pieces, and the looks and their bounds.
 #[derive(Drop)]
 struct Sums {
     handed: u64,
@@ -132,7 +131,7 @@ fn main(rt: HostRuntime) -> io::Result<()> {
 
 
 def counted(folder, lines, jobs):
-    """Makes the copy and the program over it, and answers the columns that it prints for each line."""
+    """Makes the copy and the program over it, and returns the columns that it prints for each line."""
     copy_library(folder, "count_looks", [(LOOKS, old, new) for old, new in EDITS])
     source = os.path.join(folder, "crates", "count_looks", "src")
     os.makedirs(source)
@@ -161,7 +160,7 @@ class Row:
         columns = (self.handed, self.value, self.reading, self.reading_bound, self.kept, self.printing, self.printing_bound)
         cells = ["{:,}".format(column) for column in columns]
         if self.printing_bound == 0:
-            # No symbol: nothing is cut, so no bytes stand before a marker.
+            # Not a symbol: nothing is cut, so there is no marker.
             cells[4] = "-"
         return cells
 

@@ -1,4 +1,4 @@
-"""What the measurements share: the programs, other programs, and a copy of the library's crates.
+"""The shared parts of the measurements: the programs, other programs, and a copy of the library's crates.
 
 The paths and the texts are those of the tests.
 """
@@ -19,7 +19,7 @@ def need_programs():
 
 
 def need_tool(name, package):
-    """Ends where a program is missing, and tells where it is from."""
+    """Ends if a program is missing, and says where it is from."""
     if not shutil.which(name):
         sys.exit("no %s on this machine: it is %s" % (name, package))
 
@@ -33,7 +33,7 @@ def need_valgrind():
 
 
 def need_rust_crate(folder):
-    """Ends where what is measured beside the Rust crate is missing."""
+    """Ends if cargo or the folder of the Rust crate is missing."""
     need_tool("cargo", "of the Rust tool chain")
     if not os.path.exists(os.path.join(folder, "Cargo.toml")):
         sys.exit("no Cargo.toml in %s, which is to be the folder of the Rust crate rustc-demangle" % folder)
@@ -51,7 +51,7 @@ def further(text):
 
 
 def others():
-    """The other demanglers of this machine, by name. Those that are missing are told on standard error."""
+    """The other demanglers of this machine, by name. Those that are missing are reported on standard error."""
     for name in OTHERS:
         if shutil.which(name):
             yield name, [name]
@@ -84,7 +84,7 @@ def processor_seconds(command, path):
 
 
 def listed():
-    """The lines of crates.txt: what each crate uses, by its name."""
+    """The lines of crates.txt: the crates that each crate uses, by its name."""
     with open(os.path.join(ROOT, "crates.txt")) as file:
         lines = [line.split("#")[0].strip() for line in file]
     parted = (line.partition(":") for line in lines if line)
@@ -101,9 +101,9 @@ def library_crates():
 
 
 def copy_library(folder, program, edits=()):
-    """Copies the library's crates into a folder, with their folders out, beside the line of a program that uses the library.
+    """Copies the library's crates into a folder, with their folders `out`, and adds the line of a program that uses the library.
 
-    Each edit is the end of a file's path in one of the crates, an old text that stands in it once, and a new one.
+    Each edit is the end of a file's path in one of the crates, an old text that occurs in it once, and a new one.
     """
     lines = listed()
     names = library_crates()
@@ -130,7 +130,7 @@ def edit(crates, end, old, new):
 
 
 def build(folder, program, jobs):
-    """Builds a program of a folder by `rt run`, and answers its path."""
+    """Builds a program of a folder by `rt run`, and returns its path."""
     place = os.path.join(folder, "crates", program)
     words = ["rt", "run"] + (["--jobs", str(jobs)] if jobs else [])
     run = subprocess.run(words, cwd=place, stdin=subprocess.DEVNULL, stdout=subprocess.PIPE, stderr=subprocess.STDOUT, encoding="utf-8")

@@ -1,20 +1,20 @@
 #!/usr/bin/env python3
-"""Runs kodliwe and further programs over texts in which symbols come again, and over texts in which they come once.
+"""Runs kodliwe and further programs over texts with repeated symbols, and over texts in which each symbol comes once.
 
 It makes each text in a temporary folder and removes it at the end:
 
 profile     lines as `perf script` prints them. Their symbols come by Zipf's law, 60 times each on average. They are those of the stored
             corpus, in as many variants as are needed, each with another hash or another crate's disambiguator.
 once        lines as `nm` prints them, each with another symbol.
-one pair    40 symbols that a memo of kodliwe keeps in one pair of entries, in turn.
+one pair    40 symbols that share one pair of entries in kodliwe's memo, in alternation.
 long texts  a symbol of 159 bytes that prints 1,000,020 bytes, up to the limit.
 long run    a symbol of 1,000,000 bytes.
 plain       lines without a symbol.
 underscores lines without a symbol that have many underscores.
 
-With --objdump PATH and --nm PATH it also takes what `objdump -d` and `nm` print of a program or a library, and with --text FILE a file.
-For each text and program it prints megabytes a second of processor time (the least of --rounds runs, all programs in turn), the most
-memory, and instructions a line of the first 20,000 lines, counted by callgrind, less those of a run on no input.
+With --objdump PATH and --nm PATH it also uses the output of `objdump -d` and `nm` for a program or a library, and with --text FILE a
+file. For each text and program it prints megabytes a second of processor time (the least of --rounds runs, in which the programs
+alternate), the peak memory, and instructions a line of the first 20,000 lines, counted by callgrind, less those of a run on no input.
 Build the programs first, by `make`.
 """
 import argparse, itertools, os, random, re, subprocess, tempfile
@@ -43,7 +43,7 @@ def variant(symbol, chance):
     """The same symbol of another build: with another hash, or other disambiguators of its crates."""
     digits = "".join(chance.choices("0123456789abcdef", k=16))
     legacy = re.sub(r"17h[0-9a-f]{16}E", "17h%sE" % digits, symbol)
-    # A disambiguator is below 2^64: of eleven digits, the first is at most 21.
+    # A disambiguator is below 2^64, so the first of eleven digits is at most 21.
     return re.sub(r"Cs[0-9A-Za-z]{11}_", lambda _: "Cs%s%s_" % (chance.choice(DIGITS[1:21]), "".join(chance.choices(DIGITS, k=10))), legacy)
 
 
@@ -54,7 +54,7 @@ def variants(count):
 
 
 def profile(size):
-    """Lines as `perf script` prints them, of so many bytes."""
+    """Lines as `perf script` prints them, of that many bytes."""
     chance = random.Random(11)
     symbols = list(variants(max(1, size // 150 // REPEATS)))
     chance.shuffle(symbols)
@@ -174,9 +174,9 @@ def spent(words, path):
 
 
 def most_memory(words, path):
-    """The most memory of one run in KB, as the system told it last before the run ended.
+    """The peak memory of one run in KB, as the system last reported it before the run ended.
 
-    What `wait4` tells counts this script too, which the run was forked from.
+    The figure of `wait4` includes this script, from which the run was forked.
     """
     most = 0
     with open(path, "rb") as file:
@@ -190,7 +190,7 @@ def most_memory(words, path):
 
 
 def measure(programs, path, rounds):
-    """The least time of each program, over runs in turn."""
+    """The least time of each program, over runs in which the programs alternate."""
     least = {name: None for name, _ in programs}
     for _ in range(rounds):
         for name, words in programs:

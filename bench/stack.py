@@ -1,9 +1,9 @@
 #!/usr/bin/env python3
-"""Tells the least stack with which each demangler of this machine prints a symbol: the least `ulimit -s`, in steps of 4 KB.
+"""Finds the least stack with which each demangler of this machine prints a symbol: the least `ulimit -s`, in steps of 4 KB.
 
-"flat" are the real v0 symbols that demangle_corpus stores, "deep" has 490 references in one another and a back reference, and
-"nested" has 60 tuples in one another, more than the short row of frames holds. Where a stack begins is random, so a size counts
-only where each of so many runs succeeded with it.
+"flat" is the real v0 symbols that demangle_corpus stores. "deep" has 490 nested references and a back reference. "nested" has 60
+nested tuples, which need more frames than the first stack has. The start of a stack is random, so a size counts only if each of
+several runs succeeded with it.
 """
 import argparse, subprocess
 
@@ -14,12 +14,12 @@ def texts():
     with open(CORPUS, encoding="utf-8") as file:
         lines = file.read().split("\n")
     flat = "".join(line.split("\t")[0] + "\n" for line in lines[800:1700])
-    # The reference leads to the `a` behind the path `C0`.
+    # The reference points to the `a` after the path `C0`.
     return {"flat": flat, "deep": "_RMC0T" + "a" + "R" * 490 + "B3_" + "E\n", "nested": "_RMC0" + "T" * 60 + "u" + "E" * 60 + "\n"}
 
 
 def suffices(words, text, size, runs):
-    """Whether each run with a stack of so many KB succeeds and writes what a run with much stack does."""
+    """Whether each run with a stack of that many KB succeeds and writes the same as a run with a large stack."""
 
     def run(kilobytes):
         limited = ["sh", "-c", 'ulimit -s %d && exec "$@"' % kilobytes, "sh"] + words

@@ -1,9 +1,9 @@
 #!/usr/bin/env python3
 """Lists the files of definitions that a reader of the public contracts of the library and the program has to believe.
 
-It follows the names that the clauses of public items have from the crates' specs/, and then the imports among those files;
-it prints each crate's files with their lines, and which of them docs/GUARANTEES.md does not list, or lists and need not.
-Its status is 1 where there are such. Run it at the top of the repository: docs/believed.py
+It follows the names that the clauses of public items have from the crates' specs/, and then the imports among those files.
+It prints each crate's files with their lines. It also prints the files that docs/GUARANTEES.md lacks or lists without need,
+and then its status is 1. Run it at the top of the repository: docs/believed.py
 """
 import argparse, os, re, sys
 
@@ -37,7 +37,7 @@ def used_crates():
 
 
 def home(crate, name):
-    """The crate whose file of definitions it is, where the named one may only pass it on."""
+    """The crate that has the file of definitions. The named crate may only export it."""
     passed = re.findall(r"^pub use Rattle\.(\w+)\.specs\.%s$" % name, read(CRATES, crate, "specs", "Lib.antt"), re.M)
     return (passed[0] if passed else crate, name)
 
@@ -54,7 +54,7 @@ def owned(text):
 
 
 def folder_of(folder, module):
-    """Where the modules inside a module stand."""
+    """The folder of the modules inside a module."""
     return folder if module == "lib" else os.path.join(folder, module)
 
 
@@ -105,7 +105,7 @@ def promised(text, names):
 
 
 def cited(file, names):
-    """The files of definitions whose words the public items of a file cite."""
+    """The files of definitions whose names the public items of a file use."""
     text = read(file)
     words = {}
     for owner, module, list_of in re.findall(r"ghost use Rattle\.(\w+)\.specs\.(\w+)\.\{([^}]*)\}", text):

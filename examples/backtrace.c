@@ -2,15 +2,14 @@
  *
  *     gcc -O1 -g -rdynamic -I include examples/backtrace.c crates/demangle_c/out/libdemangle_c.a -o out/backtrace && out/backtrace
  *
- * The handler of SIGSEGV runs on a stack of its own, takes no memory and no lock of ours, and asks for at most as many
- * bytes of a path as it has room for. So that the program needs no Rust compiler, three functions of C carry the symbols
- * that rustc gives such functions; a program that links Rust code has them of itself.
+ * The handler of SIGSEGV runs on a separate stack. Its calls into the library allocate nothing and take no lock, and it
+ * passes a limit, so that it gets no more bytes of a path than it has room for. Three functions of C have the symbols that
+ * rustc gives to Rust functions, so this example needs no Rust compiler. A program that links Rust code has such symbols.
  *
- * That stack has 16 KiB, which suffice for every symbol but those that are made to be deep: the handler was seen to touch
- * 8.9 KB of it, also with the real symbols that want most. A symbol that is made to be deep wants up to 78 KB, and need
- * not be long (`_RNvB_1a`, of 8 bytes, wants 14.4): more than the stack has lies before it and cannot be touched, so that
- * such a symbol ends the program and overwrites nothing. A program that prints a stranger's symbols takes 96 KiB for the
- * stack. */
+ * That stack has 16 KiB. This is enough for every symbol except those that are made to be deep: the handler was seen to
+ * touch 8.9 KB of it, even with the real symbols that need most. A symbol that is made to be deep needs up to 78 KB, and
+ * may be short (`_RNvB_1a`, of 8 bytes, needs 14.4). 96 KiB before the stack cannot be touched. So such a symbol ends the
+ * program and overwrites nothing. A program that prints a stranger's symbols needs a stack of 96 KiB. */
 #ifndef _GNU_SOURCE
 #define _GNU_SOURCE
 #endif
@@ -35,7 +34,7 @@ static void print(const char *text, size_t len) {
     }
 }
 
-/* One line: the frame's number, and the path, the symbol or the file that the address lies in. */
+/* Prints one line: the frame's number, and the path, the symbol or the file of the address. */
 static void print_frame(int number, const char *address) {
     char line[LINE] = "  0: ";
     line[1] = (char)(number >= 10 ? '0' + number / 10 : ' ');
@@ -45,7 +44,7 @@ static void print_frame(int number, const char *address) {
     if (dladdr(address, &info) != 0) name = info.dli_sname ? info.dli_sname : info.dli_fname;
     size_t room = sizeof line - 5, len = strlen(name);
     size_t want = kodliwe_demangle_limited(name, len, line + 5, room, false, room);
-    if (want == 0) { /* no Rust symbol */
+    if (want == 0) { /* not a Rust symbol */
         if (len >= room) len = room - 1;
         memcpy(line + 5, name, len + 1);
         line[5 + len] = 0;
@@ -58,10 +57,10 @@ static void on_fault(int sig) {
     void *frames[FRAMES];
     int count = backtrace(frames, FRAMES);
     print("segmentation fault\n", 19);
-    /* The first two are this handler and what it returns to, the third is where the fault was. The others are return
-     * addresses, which may be the first byte behind the function that called. */
+    /* The first two are this handler and the code that it returns to. The third is the address of the fault. The others are
+     * return addresses, which may be the first byte after the calling function. */
     for (int i = 2; i < count; i++) print_frame(i - 2, (const char *)frames[i] - (i > 2));
-    /* SA_RESETHAND took the handler off: the fault comes again when we return, and ends the process. */
+    /* SA_RESETHAND removed the handler, so the fault comes again after the return, and ends the process. */
     (void)sig;
 }
 

@@ -1,4 +1,4 @@
-/* Prints the paths that the symbols in its arguments name, and any other text as it is. */
+/* Prints the paths that the symbols in its arguments name. Any other argument is printed unchanged. */
 #include "kodliwe.h"
 #include <stdio.h>
 #include <string.h>

@@ -1,25 +1,26 @@
 #!/usr/bin/env python3
 """Compares the corpus's stored answers, which are those of the Rust crate rustc-demangle 0.1.28, with a release of that crate.
 
-It builds a program over the crate outside the repository, asks it for each symbol of the lines of five columns and of `\\pieces`,
-and tells each line that differs. Lines of `\\limit` are left out, since the crate has one limit. The crate is Debian's
-librust-rustc-demangle-dev, 0.1.21, or that of --crate. From line 801 on the answers were written over a crate with two changes
+It builds a program over the crate outside the repository, and runs it for each symbol of the lines of five columns and of
+`\\pieces`. It reports each line that differs. Lines of `\\limit` are omitted, since the crate has one limit. The crate is Debian's
+librust-rustc-demangle-dev, 0.1.21, or that of --crate. From line 801 on, the answers come from a crate with two changes
 (docs/CORPUS.md), so 37 lines differ from 0.1.28. CHANGED has how many differ from each release, and why. The last line is
-'N passed, N failed', where those lines count as passed.
+'N passed, N failed', and those lines count as passed.
 """
 import argparse, hashlib, os, re, subprocess, sys, tempfile
 
 from common import CORPUS, Lacking, tool
 
 CRATE = "/usr/share/cargo/registry/rustc-demangle-0.1.21"
-# How many lines each release answers otherwise. From 0.1.21 to 0.1.28 the crate changed its texts of faults (`{invalid syntax}`, which was
-# `?`), learned constants of texts, arrays, tuples and structs, and moved its limits. No line of REAL differs in either.
+# How many lines have a different result in each release. From 0.1.21 to 0.1.28 the crate changed its texts of errors
+# (`{invalid syntax}` was `?`) and its limits, and added constants of texts, arrays, tuples and structs. No line of REAL differs in
+# either.
 CHANGED = {
     "0.1.28": {"columns": 33, "pieces": 4},
     "0.1.21": {"columns": 919, "pieces": 116},
 }
 REAL = 1700
-# Answers, for each text in hexadecimal, with whether it is a symbol, its text, and the nonempty pieces of both forms.
+# Prints, for each text in hexadecimal, whether it is a symbol, its text, and the nonempty pieces of both forms.
 PROGRAM = r"""
 use std::fmt::{self, Write};
 use std::io::BufRead;
@@ -91,7 +92,7 @@ def build(folder, crate):
 
 
 def asked():
-    """The lines that are compared: their number, kind, symbol and wanted columns."""
+    """The lines that are compared: their number, kind, symbol and expected columns."""
     with open(CORPUS, encoding="utf-8", newline="") as file:
         for number, line in enumerate(file.read().split("\n"), 1):
             columns = line.split("\t")

@@ -3,17 +3,17 @@
 
 It prints a line for each of these:
 
-  archive     defines the calls of the headers and nothing else that C sees, needs memcpy, memmove, memset and strlen alone,
-              has no data that can be written and none of a thread's, and no instruction that locks or calls the system
+  archive     defines the calls of the headers and nothing else that C sees, needs only memcpy, memmove, memset and strlen,
+              has no writable or thread-local data, and no instruction that locks or calls the system
   answers     tests/c_library/answers.c gives the stored answers of crates/demangle_corpus/stdin in both forms, at thirteen sizes of the
-              output, with guard bytes and fenced pages; the answers under the stored limits; and refuses bad texts.
+              output, with guard bytes and fenced pages; the answers under the stored limits; and rejects bad texts.
               By gcc and by clang, each linked as usual, with -static, to the shared library, as C++, and with AddressSanitizer
   backtrace   examples/backtrace.c prints its own backtrace with paths in place of symbols, and ends at a symbol that is made
               to be deep
   hostile     the checks of answers.c over costly symbols, under limits of 0 and of 4,096 bytes
-  headers     both headers compile as C89 but for `bool`, as later C and as C++, without a warning
-  texts       the stored symbols with bytes between them as one text, which need be no UTF-8
-  by name     rustc_demangle is a function of the shared library, and answers as the crate's does
+  headers     both headers compile as C89 except for `bool`, as later C and as C++, without a warning
+  texts       the stored symbols with bytes between them as one text, which need not be UTF-8
+  by name     rustc_demangle is a function of the shared library, and returns the same as the crate's
   sanitizers  tests/c_library/many.c makes each call for 20,000 texts, most of them damaged symbols, from two threads at once,
               built with AddressSanitizer, UndefinedBehaviorSanitizer and ThreadSanitizer; with --all for 200,000
   stack       the bytes of stack that a call in a signal handler touches, over the stored symbols and hostile ones: at most 96 KiB,

@@ -5,12 +5,12 @@ usage: crate.py [STEP..]
 
   same        rust/ is what packaging/crate/erase.py makes of the source
   tests       the repository's tests, erased, and the crate's own: in debug and release, without std
-  lints       cargo fmt, clippy and doc have nothing to say
+  lints       cargo fmt, clippy and doc report nothing
   corpus      the stored answers, pieces and limits of crates/demangle_corpus/stdin
   damaged     50,000 damaged symbols, by calls and by both programs, against stored digests
-  programs    both programs on the runs that are stored beside their sources
-  characters  the table of characters gives each of 1,114,112 code points what the kit's crate does
-  no_std      a static library without std needs five functions of C and a 128-bit division at most
+  programs    both programs on the inputs that are stored next to their sources
+  characters  the table of characters has the same entry for each of 1,114,112 code points as the kit's crate
+  no_std      a static library without std needs at most five functions of C and a 128-bit division
   package     `cargo package` makes both .crate files, with their licences
 
 It needs cargo, a C compiler, `nm` and, for `characters`, the Rattle kit. Work is done in out/crate.
@@ -63,7 +63,7 @@ def tests_in_source():
                     text = source.read()
                 counts[file] = len(re.findall(r"^#\[test\]$", text, re.M))
                 if "linked_list_allocator" in text:
-                    counts[file] = 0  # Stable Rust has no allocator of one's own in a `Vec`.
+                    counts[file] = 0  # In stable Rust, a `Vec` cannot have another allocator.
     return sum(counts.values())
 
 

@@ -2,16 +2,19 @@
 """Checks which clause refused each must-fail edit, from what the gate said.
 
     rt ci > gate.txt; tests/edits.py gate.txt          (or rt must-fail CRATE > gate.txt)
-    tests/edits.py                                     (only lists the edits that have no line `clause:`, or more than one)
+    tests/edits.py                                     (only reads the edits, and lists those that can't be right)
 
-A line `clause: FUNCTION CLAUSE` of an edit names the function that the prover refuses first, and its clause: `ensures` where
-that has no name or is the function's only one, `loop` where it is the invariant of a loop, `invariant` where it is that of a type
-whose value is made there, `call` where it is what a called function requires. The gate cuts what it says; where the clause is
+A line `clause: FUNCTION CLAUSE` of an edit names the function that the prover refuses first, and its clause: `ensures` if that
+has no name or is the function's only one, `loop` if it is the invariant of a loop, `invariant` if it is that of a type
+whose value is made there, `call` if it is what a called function requires. The gate cuts what it says; if the clause is
 cut off, the function alone is compared. With --write an edit that has no such line is given what the gate said of it, to be
 judged by a reader. An edit that the gate did not try is a failure, and so is one that has no such line.
+
+Without a file of the gate, an edit fails if it has no such line or more than one, if its crate has no such function, if no
+contract of the repository has such a clause, or if an `old:` text is not in its file exactly once.
 The last line is 'N passed, N failed'.
 """
-import argparse, os, re, sys
+import argparse, glob, os, re, sys
 
 from common import ROOT
 
@@ -23,12 +26,13 @@ IN_SOURCE = re.compile(r"(?:note: )?(?:\./)?(src/\S+?):(\d+):\d+: (.*)")
 
 
 def read(*place):
+    """Returns the text of a file."""
     with open(os.path.join(*place), encoding="utf-8") as file:
         return file.read()
 
 
 def edits(names):
-    """The crate, the name and the lines of each edit."""
+    """Yields the crate, the name and the lines of each edit."""
     for crate in sorted(os.listdir(CRATES)):
         folder = os.path.join(CRATES, crate, "must-fail")
         if os.path.isdir(folder) and (not names or crate in names):
@@ -37,21 +41,28 @@ def edits(names):
                     yield crate, name[: -len(".edit")], read(folder, name).splitlines()
 
 
-def edited(crate, lines, wanted):
-    """The lines of a source file with the edit in it."""
-    text, path, old = read(CRATES, crate, wanted), None, None
+def changed(crate, lines):
+    """Returns the texts of the files that an edit changes, and what is wrong with its `old:` texts, or None."""
+    texts, path, old, wrong = {}, None, None, "it has no lines `file:`, `old:` and `new:`"
     for line in lines:
         if line.startswith("file: "):
             path = line[len("file: ") :].strip()
+            if not os.path.isfile(os.path.join(CRATES, crate, path)):
+                return texts, "there is no file %s" % path
+            texts.setdefault(path, read(CRATES, crate, path))
         elif line.startswith("old: "):
             old = line[len("old: ") :]
-        elif line.startswith("new:") and path == wanted:
-            text = text.replace(old, re.sub(r"^ ", "", line[len("new:") :]))
-    return text.splitlines()
+        elif line.startswith("new:") and path and old:
+            count = texts[path].count(old)
+            if count != 1:
+                return texts, "an `old:` text is in %s %d times, and not once" % (path, count)
+            texts[path] = texts[path].replace(old, re.sub(r"^ ", "", line[len("new:") :]))
+            wrong = None
+    return texts, wrong
 
 
 def function_at(lines, number):
-    """The function that stands around a line, or begins in it."""
+    """Returns the function that is around a line, or begins in it."""
     for line in reversed(lines[: number + 2]):
         found = re.search(r"\bfn (\w+)", line)
         if found and lines.index(line) < number + 2:
@@ -60,7 +71,7 @@ def function_at(lines, number):
 
 
 def clause_of(goal):
-    """The clause that a goal is of."""
+    """Returns the clause that a goal is of."""
     named = re.search(r"clause-([\w-]+?)(?:-\d+)?$", goal)
     if named:
         return named[1]
@@ -72,7 +83,7 @@ def clause_of(goal):
 
 
 def refused_by(crate, lines, said):
-    """The function and the clause that the gate names; the clause is None where it is cut off."""
+    """Returns the function and the clause that the gate names. The clause is None if it is cut off."""
     proof = IN_PROOF.match(said)
     if proof:
         return proof[1], clause_of(proof[2]) if proof[3] else None
@@ -80,23 +91,49 @@ def refused_by(crate, lines, said):
     if not source:
         return None
     goal = re.search(r"\(`([^`]*)`\)", source[3])
-    return function_at(edited(crate, lines, source[1]), int(source[2])), clause_of(goal[1]) if goal else None
+    text = changed(crate, lines)[0].get(source[1]) or read(CRATES, crate, source[1])
+    return function_at(text.splitlines(), int(source[2])), clause_of(goal[1]) if goal else None
 
 
 def clauses(lines):
-    """The function and the clause of each line `clause:`."""
+    """Returns the function and the clause of each line `clause:`."""
     return [line[len("clause: ") :].split() for line in lines if line.startswith("clause: ")]
 
 
-def lineless(lines):
-    """What is wrong with the line of an edit by itself, or None."""
-    if [len(words) for words in clauses(lines)] == [2]:
-        return None
-    return "it has no line `clause: FUNCTION CLAUSE`, or more than one"
+def sources(crate="*"):
+    """Returns the text of all Rattle sources of a crate, or of every crate."""
+    places = glob.glob(os.path.join(CRATES, crate, "src", "**", "*.rt"), recursive=True)
+    return "\n".join(read(place) for place in sorted(places))
+
+
+class Names:
+    """Knows the functions and the clauses of the sources."""
+
+    def __init__(self):
+        self.texts = {}
+        clause = r"^ *(?:ensures|requires|invariant|ghost) (\w+) (?:\{|=|:)"
+        self.clauses = {"ensures", "loop", "invariant", "call", *re.findall(clause, sources(), re.M)}
+
+    def has_function(self, crate, function):
+        """Returns whether a crate has a function of this name."""
+        if crate not in self.texts:
+            self.texts[crate] = sources(crate)
+        return re.search(r"\bfn %s\b" % re.escape(function), self.texts[crate]) is not None
+
+    def wrong(self, crate, lines):
+        """Returns what is wrong with an edit by itself, or None."""
+        if [len(words) for words in clauses(lines)] != [2]:
+            return "it has no line `clause: FUNCTION CLAUSE`, or more than one"
+        function, clause = clauses(lines)[0]
+        if not self.has_function(crate, function):
+            return "the crate has no function `%s`" % function
+        if clause not in self.clauses:
+            return "no contract has a clause `%s`" % clause
+        return changed(crate, lines)[1]
 
 
 def check(crate, name, lines, said, write):
-    """What is wrong with an edit, or None."""
+    """Returns what is wrong with how the gate refused an edit, or None."""
     refused = REFUSED.match(said)
     if not refused or not refused[1] or refused[1].startswith("(only"):
         return said
@@ -129,11 +166,12 @@ def main():
         with open(options.gate, encoding="utf-8", errors="replace") as file:
             said = {(found[1], found[2]): found[3] for found in map(SAID.search, file.read().splitlines()) if found}
     passed = failed = 0
+    names = Names()
     for crate, name, lines in edits(options.crate):
         if options.gate:
             wrong = check(crate, name, lines, said.get((crate, name), "the gate did not try it"), options.write)
         else:
-            wrong = lineless(lines)
+            wrong = names.wrong(crate, lines)
         if wrong:
             print("%s/%s: %s" % (crate, name, wrong))
         passed, failed = passed + (not wrong), failed + bool(wrong)

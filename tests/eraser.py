@@ -1,14 +1,14 @@
 #!/usr/bin/env python3
-"""Tests packaging/crate/erase.py: each construct by itself, and faults that were planted in it.
+"""Tests packaging/crate/erase.py: each construct separately, and mistakes that are planted in it.
 
 usage: eraser.py [STEP..]
 
-  constructs   each construct of tests/eraser/constructs.txt becomes what is written beside it
+  constructs   each construct of tests/eraser/constructs.txt becomes the text that follows it there
   unknown      each construct of tests/eraser/unknown.txt is an error that names its line
   source       an error in a repository names the file and the line
-  faults       faults planted in the eraser and the template are found by the tests of the crate
+  faults       the tests of the crate find mistakes that are planted in the eraser and the template
 
-It needs cargo; the last fault needs the Rattle kit.
+It needs cargo; the last mistake needs the Rattle kit.
 """
 
 import os

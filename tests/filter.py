@@ -1,8 +1,8 @@
 #!/usr/bin/env python3
 """Runs the built demangle_filter as its users do, and compares what it writes, its line of an error and its status.
 
-It is for what `rt ci` can't try by its one stored run: words, bytes that are not UTF-8, input in two parts, an output that is
-closed or full. `make` builds the program; --program names another one. The last line is 'N passed, N failed'.
+It covers cases that `rt ci` cannot try by its one stored run: arguments, bytes that are not UTF-8, input in two parts, an output
+that is closed or full. `make` builds the program; --program names another one. The last line is 'N passed, N failed'.
 """
 import argparse, os, subprocess, sys, threading
 
@@ -13,7 +13,7 @@ NOT_UTF8 = b"demangle_filter: not UTF-8\n"
 WRITE_FAILED = b"demangle_filter: write failed\n"
 HASHED = b"a _ZN3foo17h05af221e174051e9E b\r\n\n_RNvCs_3foo3bar"
 
-# A name, the words, the input, and the output, the line of an error and the status that are wanted.
+# A name, the arguments, the input, and the expected output, line of an error and status.
 RUNS = [
     ("with the hash", [], HASHED, b"a foo::h05af221e174051e9 b\r\n\nfoo[1]::bar", b"", 0),
     ("--no-hash", ["--no-hash"], HASHED, b"a foo b\r\n\nfoo::bar", b"", 0),

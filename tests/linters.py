@@ -26,7 +26,7 @@ def sources():
 
 
 def scripts(ending, first_line):
-    """Returns the sources with this ending, and those without one that begin with such a line."""
+    """Returns the sources with this suffix, and those without a suffix that begin with such a line."""
     found = []
     for path in sources():
         if path.endswith(ending):

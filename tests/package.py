@@ -1,22 +1,22 @@
 #!/usr/bin/env python3
-"""Installs and packs Kodliwe in folders of its own, and tries what is installed as a new user would.
+"""Installs and packs Kodliwe in new folders, and tries the installed files as a new user would.
 
 It takes what `make` built, and prints a line for each of these:
 
   installed   `make install` into an empty folder: the files, and nothing else
   settings    examples/paths.c, built and run with the two variables that `make install` prints
   documents   each link of an installed document leads to an installed file, or to the web
-  exports     the shared library's name, and that it exports the calls of the headers alone
+  exports     the shared library's name, and that it exports only the calls of the headers
   c, static   examples/paths.c by `gcc $(pkg-config ..)`, over the shared library and over the archive
   loaded      rustc_demangle, found by its name in the loaded library
   rust        a Rust program that calls the archive, which pkg-config finds
-  python      bindings/python over the installed library; and from `pip install`, in an environment of its own
+  python      bindings/python over the installed library, and from `pip install` in a new environment
   program     kodliwe and demangle_filter as installed
   manual      `man` shows each manual
   completions bash, zsh and fish read theirs
   removed     `make uninstall` leaves nothing
   tarball     unpacked in another place: its sums, pkg-config, the program
-  package     lintian says no error; installed by `dpkg -i`, tried, and removed (as root alone)
+  package     lintian reports no error; installed by `dpkg -i`, tried, and removed (only as root)
   same        packing again gives the same bytes; with --twice, building from a fresh copy too
   untracked   nothing in the repository that git does not know
 

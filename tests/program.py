@@ -5,39 +5,40 @@ It prints a line for each of these, and at last how many passed:
 
   log           a byte of Latin-1 and a NUL in a log stay, and the symbols around them are demangled
   folded        -f and --fold print _ for generic arguments, of repeated symbols too, with the hash and without it
-  inputs        several inputs in the order of the words, one of them without its last line feed
-  words         -- and symbols that begin with -; 10,000 symbols as words
-  unknown       a word that is no option ends it with status 2 before anything is read
-  missing       an input that is not there, or is a directory, is named; what came before it is written; a name that would not
-                show is quoted, and a folder of --output that fails is named
-  noted         a word without a symbol that names a file: one note, with the output and the status as they are
+  inputs        several inputs in the order of the arguments, one of them without its last line feed
+  words         -- and symbols that begin with -; 10,000 symbols as arguments
+  unknown       an argument that is not an option ends it with status 2 before anything is read
+  missing       an input that does not exist, or is a directory, is named; the inputs before it are written; a name that is not
+                printable is quoted, and a folder of --output that fails is named
+  noted         an argument without a symbol that names a file: one note, with the output and the status unchanged
   standard      -o - is standard output, and a second -o is an error
-  full          /dev/full is told, as the output and under --output
-  closed        a pipe that whoever read it has closed ends it silently with status 0
-  followed      what is finished is shown while the input is still open
-  replaced      --output replaces a file only once all is written, keeps its permissions, takes an input as its own output,
+  full          /dev/full is reported, as the output and under --output
+  closed        a pipe that its reader has closed ends it with status 0 and no message
+  followed      finished lines are written while the input is still open
+  replaced      --output replaces a file only when all is written, keeps its permissions, accepts an input as its own output,
                 follows a link, and leaves no other file
-  kept          a fault leaves the file of --output as it was
+  kept          an error leaves the file of --output unchanged
   device        --output into a device and into a pipe writes in place
   interrupted   a signal that is caught interrupts reading and writing, and nothing is lost
   memory        a run under each limit of address space ends with all of the text or with one line and status 1
-  requests      each request of memory refused, alone or with all behind it, ends it with one line and status 1, what was written
-                begins the output, and the file of --output is as it was, with no other beside it; without its memo a run is whole
-  guarded       each of fsync, rename, fchmod and statx refused under --output: one line, status 1, the file is as it was, and no other
-                is beside it; the file is synchronized before it gets its name
+  requests      if an allocation fails, alone or with all later ones, it ends with one line and status 1; the written bytes are a
+                prefix of the output, and the file of --output is unchanged, with no other next to it; a run without its memo is
+                complete
+  guarded       if fsync, rename, fchmod or statx fails under --output: one line, status 1, the file is unchanged, and no other is
+                next to it; the file is synchronized before it gets its name
   names         99 names for the unfinished file are taken, and then a hundred
-  waiting       an input that would have to wait is told, and not read for ever
-  one call      each line of a fault or a note is written by one call
-  large         300,000 symbols, runs of 3 MB, a line of 5 MB, a word of 130,000 bytes, a thousand files, a limit of 0
+  waiting       an input that would have to wait is reported, and not read forever
+  one call      each line of an error or a note is written by one call
+  large         300,000 symbols, runs of 3 MB, a line of 5 MB, an argument of 130,000 bytes, a thousand files, a limit of 0
   long          a line of 1 GB without a line feed, within 8 MB of memory
   help          --help has at most 24 lines of 80 columns, and names every option
   manual        docs/kodliwe.1 has each option and is laid out without a warning
   completions   bash, zsh and fish offer each option, and bash the files of an option after its =
   filter        the output is that of demangle_filter over the stored corpus and hostile symbols
   same file     an input that is the file of standard output is an error before anything is read; with --output it is replaced
-  terminal      a terminal as standard input is noted if there are no words
-  marked        an input that begins as gzip, zstd, xz or UTF-16 is noted once, and copied with the status as it is; no other is noted,
-                and none is read further for it
+  terminal      a terminal as standard input is noted if there are no arguments
+  marked        an input that begins as gzip, zstd, xz or UTF-16 is noted once, and copied with the same status; no other is noted,
+                and no further bytes are read for it
   version       --version has the version, the logic of the kit and the licence
 
 `make` builds the programs. The last line is 'N passed, N failed'. A missing tool is a failure.
@@ -52,7 +53,7 @@ OPTIONS = ["-i", "--input", "-o", "--output", "--hash", "-f", "--fold", "-l", "-
 
 
 def run(*words, text=b"", **more):
-    """What a run wrote, what it told, and its status."""
+    """The output of a run, its lines on standard error, and its status."""
     ran = subprocess.run([KODLIWE, *words], input=text, stdout=subprocess.PIPE, stderr=subprocess.PIPE, timeout=120, **more)
     return ran.stdout, ran.stderr.decode(), ran.returncode
 
@@ -137,7 +138,7 @@ def noted():
     same(run("crash.txt", "-o", "noted"), (b"", note, 0))
     same(read("noted"), b"crash.txt\n")
     same(run("-i", "crash.txt"), (b"at a", "", 0))
-    # Only the first word without a symbol is looked up, and a folder is no file.
+    # Only the first argument without a symbol is looked up, and a folder is not a file.
     same(run("none.txt", "crash.txt"), (b"none.txt\ncrash.txt\n", "", 0))
     os.mkdir("crashes")
     same(run("crashes"), (b"crashes\n", "", 0))
@@ -219,7 +220,7 @@ def kept():
     same(run("-o", name, FOO, "-i", "kept/none"), (b"", "kodliwe: kept/none: No such file or directory\n", 1))
     same(run("-o", name, FOO, "--frob")[2], 2)
     text = write("long", b"x" * 300000)
-    # A file may have 200,000 bytes, and the signal that tells it is ignored: so writing fails in the middle.
+    # A file may have 200,000 bytes, and the signal at that size is ignored. So writing fails in the middle.
     small = lambda: (resource.setrlimit(resource.RLIMIT_FSIZE, (200000, 200000)), signal.signal(signal.SIGXFSZ, signal.SIG_IGN))
     same(run("-o", name, "-i", text, preexec_fn=small), (b"", "kodliwe: write failed: File too large\n", 1))
     same((read(name), os.listdir("kept")), (b"old", ["out"]))
@@ -268,8 +269,8 @@ def memory():
     same(ended, {0, 1})
 
 
-# Refuses the requests of memory from FIRST to LAST. It writes into the file COUNT how many there were, and the size of the first that it
-# refused.
+# Lets the allocations from FIRST to LAST fail. It writes into the file COUNT how many there were, and the size of the first that
+# failed.
 REFUSING = r"""
 #define _GNU_SOURCE
 #include <dlfcn.h>
@@ -313,8 +314,8 @@ __attribute__((destructor)) static void end(void) {
 
 
 def run_refusing(first, last, words, text):
-    """Returns what a run gave that was refused these requests of memory, with the files of its folder; how many it made; and the size of
-    the first that was refused."""
+    """Returns the results of a run in which these allocations fail, with the files of its folder; how many it made; and the size of the
+    first that failed."""
     shutil.rmtree("refusing", ignore_errors=True)
     os.mkdir("refusing")
     write("refusing/in", b"_ZN1bE\n")
@@ -324,7 +325,7 @@ def run_refusing(first, last, words, text):
     return (*found, {name: read("refusing/" + name) for name in os.listdir("refusing")}), *map(int, read("count").split())
 
 
-# The size of the request for a memo's marks. A run whose memo is refused them is whole: it only finds no symbol again.
+# The size of the allocation of a memo's fingerprints. A run in which it fails is complete: it only finds no symbol again.
 MEMO_MARKS = 4 * 8192
 
 
@@ -350,7 +351,7 @@ def requests():
     for words, text in cases:
         whole, count, _ = run_refusing(1, 0, words, text)
         refused = {("kodliwe: %sout of memory\n" % name, 1) for name in ["", *(word + ": " for word in words)]}
-        # The end of the words' memory that is not used is given back: where that is refused, nothing is lost.
+        # The unused end of the arguments' memory is given back. If that fails, nothing is lost.
         for most, ends in [(0, lambda number: 10**9), (1, lambda number: number)]:
             unharmed = 0
             for number in range(1, count + 1):
@@ -364,7 +365,7 @@ def requests():
     return "%d runs" % tried
 
 
-# Refuses the call that the variable REFUSED names, and adds a line to the file CALLS for each of these calls.
+# Lets the call fail that the variable REFUSED names, and adds a line to the file CALLS for each of these calls.
 GUARDED = r"""
 #define _GNU_SOURCE
 #include <dlfcn.h>
@@ -414,7 +415,7 @@ REASONS = {
 
 
 def run_guarded(refused):
-    """Returns what a run over a file gave whose call was refused, the files of its folder, and the calls in their order."""
+    """Returns the results of a run over a file in which the call failed, the files of its folder, and the calls in their order."""
     shutil.rmtree("guarded", ignore_errors=True)
     os.mkdir("guarded")
     os.chmod(write("guarded/out", b"old"), 0o640)
@@ -454,7 +455,7 @@ def names():
 
 
 def waiting():
-    """Reads from a pipe that has nothing yet and does not wait: that is a fault, and no reason to try for ever."""
+    """Reads from a pipe that is still empty and does not wait: that is an error, and no reason to try forever."""
     reader, writer = os.pipe()
     os.set_blocking(reader, False)
     os.write(writer, b"_ZN3fooE x")
@@ -465,7 +466,7 @@ def waiting():
 
 
 def one_call():
-    """Writes each line of a fault or a note by one call: a socket of datagrams keeps apart what two calls write."""
+    """Writes each line of an error or a note by one call: a socket of datagrams separates the bytes of two calls."""
     write("packed", MARKED[0][0])
     for words in [["-i", "none.txt"], ["--frob"], ["-l", "x"], ["-o", "none/out", FOO], ["-i", "packed"]]:
         ours, its = socket.socketpair(socket.AF_UNIX, socket.SOCK_DGRAM)
@@ -486,16 +487,16 @@ def large():
     count = 300_000
     same(run(text=b"_ZN1aE " * count), (b"a " * count, "", 0))
     same(run(text=b"_ZN1aE\n" * count), (b"a\n" * count, "", 0))
-    # A run of 3 MB that is no symbol, one that is a symbol with a long suffix, and a line of 5 MB.
+    # A run of 3 MB that is not a symbol, one that is a symbol with a long suffix, and a line of 5 MB.
     many = 3_000_000
     same(run(text=b"x _ZNx" + b"y" * many + b" _ZN3fooE"), (b"x _ZNx" + b"y" * many + b" foo", "", 0))
     same(run(text=b"x _ZN3fooE." + b"y" * many + b" _ZN3fooE"), (b"x foo." + b"y" * many + b" foo", "", 0))
     same(run(text=b"l" * 5_000_000 + b" _ZN3fooE\n"), (b"l" * 5_000_000 + b" foo\n", "", 0))
-    # A word may have 131,071 bytes on Linux.
+    # An argument may have 131,071 bytes on Linux.
     same(run("_ZN3fooE." + "y" * 130_000, "_ZN3fooE"), (b"foo." + b"y" * 130_000 + b"\nfoo\n", "", 0))
     write("in", b"_ZN3fooE\n")
     same(run(*["-i", "in"] * 1000), (b"foo\n" * 1000, "", 0))
-    # A limit of 0 prints the marker alone.
+    # A limit of 0 prints only the marker.
     for words in (["-l", "0"], ["--limit=0"]):
         same(run(*words, FOO), (b"{size limit reached}\n", "", 0))
 
@@ -588,7 +589,7 @@ def filter_():
 
 
 def run_onto(name, *words, text=None):
-    """Runs over a file that standard output appends to. Returns what it told, its status, and the file."""
+    """Runs over a file that standard output appends to. Returns its lines on standard error, its status, and the file."""
     with open(name, "ab") as output, open(text or os.devnull, "rb") as stdin:
         ran = subprocess.run([KODLIWE, *words], stdin=stdin, stdout=output, stderr=subprocess.PIPE, timeout=20)
     return ran.stderr.decode(), ran.returncode, read(name)
@@ -608,11 +609,11 @@ def same_file():
     same(run_onto("same", "-o", "-", "-i", "same"), (line % "same", 1, old))
     same(run_onto("same", text="same"), (line % "standard input", 1, old))
     same(run_onto("same", "-", FOO, text="same"), (line % "standard input", 1, old))
-    # Standard input is not read if there are words, and --output replaces the file.
+    # Standard input is not read if there are arguments, and --output replaces the file.
     same(run_onto("same", FOO, text="same"), ("", 0, old + b"foo\n"))
     same(run_onto("same", "-o", "same", "-i", "same"), ("", 0, b"a\nfoo\n"))
     same(run_onto("copy", "-i", "same"), ("", 0, b"a\nfoo\n"))
-    # What is no regular file may be both.
+    # A file that is not regular may be both.
     with open("/dev/null", "r+b") as device:
         ran = subprocess.run([KODLIWE, "-i", "/dev/null"], stdin=device, stdout=device, stderr=subprocess.PIPE, timeout=20)
     same((ran.stderr, ran.returncode), (b"", 0))
@@ -645,12 +646,12 @@ MARKED = [
     ("\ufefftext".encode("utf-16-le"), 2, "encoded (UTF-16); convert it to UTF-8 first"),
     ("\ufefftext".encode("utf-16-be"), 2, "encoded (UTF-16); convert it to UTF-8 first"),
 ]
-# Their neighbours: almost a mark, a mark of something else, and UTF-8's own.
+# Similar inputs: almost a magic number, that of another format, and the byte order mark of UTF-8.
 UNMARKED = [b"", b"\x1f\x8c\x08", b"\x8b\x1f", b"\xff\xff\xfe", b"\xfe\xfe", b"PK\x03\x04", b"BZh9", "\ufefftext".encode()]
 
 
 def run_pieces(*pieces):
-    """Returns what a run told over a pipe that stays open until all that was sent is copied, each piece by itself."""
+    """Returns the notes of a run over a pipe that stays open until each piece that was sent is copied."""
     ran = subprocess.Popen([KODLIWE], stdin=subprocess.PIPE, stdout=subprocess.PIPE, stderr=subprocess.PIPE)
     for piece in pieces:
         ran.stdin.write(piece)
@@ -740,7 +741,7 @@ CHECKS = [
 
 
 def in_a_folder(check):
-    """Runs a check in a folder of its own."""
+    """Runs a check in a new folder."""
     built(KODLIWE)
     with tempfile.TemporaryDirectory() as folder:
         os.chdir(folder)

@@ -1,8 +1,8 @@
 #!/usr/bin/env python3
 """Tries bindings/python over the shared library that `make` built.
 
-It prints a line for the unit tests, for a run without a library, which must fail at once with one line, for the module as a program
-beside kodliwe, and for `pip install` into a new venv with no network: the library of its prefix, and the types that mypy finds.
+It prints a line for each of these: the unit tests; a run without a library, which must fail at once with one line; the module as a
+program, compared with kodliwe; and `pip install` into a new venv without a network, with the library of its prefix and mypy's types.
 The last line is 'N passed, N failed'.
 """
 import os

@@ -1,17 +1,17 @@
 #!/usr/bin/env python3
-"""Tries rust/rustc-demangle in the place of the published crate, with its tests and its users'.
+"""Tries rust/rustc-demangle in place of the published crate, with its tests and those of its users.
 
 usage: rust_clients.py [--crate FOLDER] [STEP..]
 
-  debian     the unit tests of Debian's rustc-demangle, put around our public calls: all pass but
-             those of DEBIAN_DIFFERENT, which differ for the named reason
-  backtrace  the tests of the crate backtrace pass with ours where they do with Debian's
+  debian     the unit tests of Debian's rustc-demangle, over our public calls: all pass except those
+             of DEBIAN_DIFFERENT, which differ for the named reason
+  backtrace  the tests of the crate backtrace that pass with Debian's crate pass with ours
   addr2line  the same of the crate addr2line
 
 and with --crate FOLDER, the source of rustc-demangle 0.1.28:
 
   interface  the tests of rust/rustc-demangle pass with that crate too
-  unit       its unit tests, with it and with ours: the same pass, but those of DIFFERENT
+  unit       its unit tests, with it and with ours: the same pass, except those of DIFFERENT
   answers    the stored answers and whole texts, with it and with ours
   speed      try_demangle and then {} of 40,000 v0 symbols: at most MOST of its instructions
 
@@ -37,14 +37,14 @@ OURS = os.path.join(RUST, "rustc-demangle")
 DEBIAN = "/usr/share/cargo/registry"
 WORK = os.path.join(OUT, "clients")
 TARGET = os.path.join(OUT, "clients-target")
-# Unit tests of 0.1.28 that want another text than ours (docs/DIFFERENCES.md): the text and ours.
+# Unit tests of 0.1.28 that expect another text than ours (docs/DIFFERENCES.md): the text and ours.
 DIFFERENT = {
     "v0::tests::demangle_min_const_generics": (
         '"0xff00ff00ff00ff00ff"',
         f'"{0xFF00FF00FF00FF00FF}"',
     ),
 }
-# Unit tests of Debian's release, 0.1.21, that want another text than ours, and why.
+# Unit tests of Debian's release, 0.1.21, that expect another text than ours, and why.
 DEBIAN_DIFFERENT = {
     # 0.1.21 prints a disambiguator of 0 as `[0]`, which 0.1.28 leaves out.
     "v0::tests::demangle_const_generics_preview",
@@ -141,7 +141,7 @@ def check_interface():
 
 
 def for_tests_only(path):
-    """Returns the items of a source that are there for its tests alone."""
+    """Returns the items of a source that only its tests use."""
     with open(path, encoding="utf-8") as file:
         text = file.read()
     # A copy of the source may lack the last line feed.

@@ -1,4 +1,4 @@
-"""What the tests of the Rust crate share beside tests/common.py and tests/texts.py: cargo, the corpus by rows and damaged symbols."""
+"""The shared parts of the Rust crate's tests, besides tests/common.py and tests/texts.py: cargo, the corpus, damaged symbols."""
 
 import hashlib
 import os
@@ -33,7 +33,7 @@ def cargo(folder, *words, target=None, status=0, **variables):
 
 
 def package(name, manifest):
-    """Writes a package of its own with this manifest, and returns its folder."""
+    """Writes a new package with this manifest, and returns its folder."""
     folder = os.path.join(OUT, name)
     os.makedirs(folder, exist_ok=True)
     with open(os.path.join(folder, "Cargo.toml"), "w", encoding="utf-8") as file:
@@ -43,7 +43,7 @@ def package(name, manifest):
 
 
 def erase(target, tool=os.path.join(ROOT, "packaging", "crate", "erase.py")):
-    """Makes the crate anew."""
+    """Makes the crate again."""
     run([sys.executable, tool, ROOT, target])
 
 
@@ -90,7 +90,7 @@ def is_utf8(text):
 
 
 def damaged_symbols():
-    """Returns the damaged symbols: the same on each machine, by a generator of its own."""
+    """Returns the damaged symbols. A generator without the machine's randomness makes the same ones everywhere."""
     symbols = [
         symbol for kind, symbol, _, columns in rows() if kind == "answer" and columns[0] == b"OK" and symbol.isascii() and len(symbol) < 400
     ]

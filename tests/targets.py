@@ -63,6 +63,7 @@ def apt(command, *words):
         "Dir::Etc::sourceparts": "/dev/null",
         "APT::Architecture": "amd64",
         "APT::Sandbox::User": "root",
+        "Acquire::Retries": "3",
     }
     flags = [part for name, value in options.items() for part in ("-o", f"{name}={value}")]
     for name in ("amd64", *(debian for _, debian, _, _ in TARGETS.values())):

@@ -20,7 +20,7 @@ FORMS = [
     "{s}\n",
     "no symbol on this line, only a few words and numbers {n}\n",
 ]
-# Texts that are no symbols, by what is wrong with them.
+# Texts that are not symbols, by their error.
 REFUSED = [
     b"",
     b"_",
@@ -45,18 +45,18 @@ REFUSED = [
 
 
 def doubling(k):
-    """Returns k tuples in one another, each of which holds its first element twice, the second time by a back reference."""
+    """Returns k nested tuples, each of which has its first element twice, the second time by a back reference."""
     references = "".join("B%s_E" % DIGITS[d] for d in range(k + 2, 2, -1))
     return "_RMC0" + "T" * k + "p" + references
 
 
 def chained(count):
-    """Returns so many times 490 references in one another, the last to an i8 by a back reference."""
+    """Returns 490 nested references, the last to an i8 by a back reference, that many times."""
     return "_RIC2aa" + ("R" * 490 + "B3_") * count + "E"
 
 
 def into_name(count):
-    """Returns a name that reads as 100,000 references in one another, and so many back references into it."""
+    """Returns a name that reads as 100,000 nested references, and that many back references into it."""
     return "_RIC100000" + "R" * 100_000 + "B7_" * count + "E"
 
 
@@ -94,7 +94,7 @@ def symbols(scheme):
 
 
 def made_lines(repeat, scheme):
-    """Yields the lines of a log that has each symbol so many times."""
+    """Yields the lines of a log that has each symbol that many times."""
     found = list(symbols(scheme))
     for turn in range(repeat):
         for n, symbol in enumerate(found):
@@ -121,16 +121,16 @@ def column(text):
 
 
 def stored():
-    """Yields the stored symbols with their limits. Each has the two columns of its answer and the length without ThinLTO's ending.
+    """Yields the stored symbols with their limits. Each has the two columns of its answer and the length without ThinLTO's suffix.
 
-    The answer is None if the text is no symbol, and the length is None if it is not stored.
+    The answer is None if the text is not a symbol, and the length is None if it is not stored.
     """
     with open(CORPUS, "rb") as file:
         lines = file.read().split(b"\n")
     for line in lines:
         fields = line.split(b"\t")
         if fields[0] == b"\\limit":
-            # The column of a text that is no symbol has the text itself.
+            # The column of a text that is not a symbol has the text itself.
             symbol, refused = unescaped(fields[1]), fields[3] == fields[1] == fields[4]
             yield symbol, int(fields[2]), None if refused else (fields[3], fields[4], None)
         elif len(fields) == 5 and fields[0] != b"\\pieces":
@@ -146,7 +146,7 @@ def record(symbol, limit=NO_LIMIT):
 
 
 def damaged(texts, count):
-    """Yields so many texts, most of them stored symbols that were changed in a few places, the same ones each time."""
+    """Yields that many texts, most of them stored symbols with a few changes. They are the same each time."""
     dice = random.Random(20251123)
     for _ in range(count):
         text = bytearray(dice.choice(texts))

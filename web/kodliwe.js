@@ -67,19 +67,22 @@ function kodliweEngine() {
       }
     }
 
-    // Returns the path of the symbol at `at`, or null if it is not a symbol. Memory from `behind` is free.
-    function pathAt(at, size, behind, hash, limit) {
+    // Returns the path of the symbol at `at`, or null if it is not a symbol. Memory from `next` is free.
+    function pathAt(at, size, next, { hash, fold, limit }) {
       const room = Math.min(limit, MOST) + MARKER + size; // enough for any path
-      reserve(behind - base + room);
-      const size64 = wasm.kodliwe_demangle_limited(
-        BigInt(at), BigInt(size), BigInt(behind), BigInt(room), hash ? 1 : 0, BigInt(limit));
-      return size64 === 0n ? null : read(behind, Number(size64) - 1);
+      reserve(next - base + room);
+      const print = fold ? wasm.kodliwe_demangle_folded : wasm.kodliwe_demangle_limited;
+      const size64 = print(BigInt(at), BigInt(size), BigInt(next), BigInt(room), hash ? 1 : 0, BigInt(limit));
+      return size64 === 0n ? null : read(next, Number(size64) - 1);
     }
 
-    /** Returns the path of a symbol, or null if the text is not a symbol. */
-    function demangle(symbol, { hash = false, limit = MOST } = {}) {
+    /**
+     * Returns the path of a symbol, or null if the text is not a symbol. If `fold` is true, the path
+     * has `_` for each list of generic arguments of a v0 symbol.
+     */
+    function demangle(symbol, { hash = false, fold = false, limit = MOST } = {}) {
       putUnits(symbol);
-      return pathAt(base, symbol.length, base + symbol.length, hash, limit);
+      return pathAt(base, symbol.length, base + symbol.length, { hash, fold, limit });
     }
 
     /** Returns true if the text is a symbol. Prints nothing. */
@@ -94,15 +97,16 @@ function kodliweEngine() {
      * limit() returns the most bytes of each path. Another call of the module overwrites its
      * memory. After one, the later symbols must not be used.
      */
-    function* symbols(text, { hash = false, limit = () => MOST } = {}) {
+    function* symbols(text, { hash = false, fold = false, limit = () => MOST } = {}) {
       putUnits(text);
-      const behind = base + text.length;
-      for (let at = base; at < behind;) {
-        const start = at + Number(wasm.kodliwe_run_start(BigInt(at), BigInt(behind - at)));
-        if (start === behind) return;
-        const size = Number(wasm.kodliwe_run_len(BigInt(start), BigInt(behind - start)));
+      const next = base + text.length;
+      for (let at = base; at < next;) {
+        const start = at + Number(wasm.kodliwe_run_start(BigInt(at), BigInt(next - at)));
+        if (start === next) return;
+        const size = Number(wasm.kodliwe_run_len(BigInt(start), BigInt(next - start)));
         at = start + size;
-        yield { start: start - base, end: at - base, path: pathAt(start, size, behind, hash, limit()) };
+        const path = pathAt(start, size, next, { hash, fold, limit: limit() });
+        yield { start: start - base, end: at - base, path };
       }
     }
 
@@ -119,17 +123,18 @@ function kodliweEngine() {
     }
 
     /** Returns a text with its symbols demangled, by one call of the module. */
-    function demangleText(text, { hash = false, limit = MOST } = {}) {
-      if (!text.isWellFormed()) return joined(text, { hash, limit });
+    function demangleText(text, { hash = false, fold = false, limit = MOST } = {}) {
+      if (!text.isWellFormed()) return joined(text, { hash, fold, limit });
       reserve(text.length * 3);
       const size = encoder.encodeInto(text, view.subarray(base)).written;
-      const behind = base + size;
+      const next = base + size;
+      const print = fold ? wasm.kodliwe_demangle_text_folded : wasm.kodliwe_demangle_text;
       for (let room = size * 2 + 1; ;) {
         reserve(size + room);
-        const wants = Number(wasm.kodliwe_demangle_text(
-          BigInt(base), BigInt(size), BigInt(behind), BigInt(room), hash ? 1 : 0, BigInt(limit)));
-        if (wants <= room) return read(behind, wants - 1);
-        room = wants;
+        const needed = Number(print(
+          BigInt(base), BigInt(size), BigInt(next), BigInt(room), hash ? 1 : 0, BigInt(limit)));
+        if (needed <= room) return read(next, needed - 1);
+        room = needed;
       }
     }
 

@@ -24,7 +24,7 @@ stack backtrace:
 `;
 
   const $ = (id) => document.getElementById(id);
-  const [input, hash, wrap, copy, download, clear] = ["input", "hash", "wrap", "copy", "download", "clear"].map($);
+  const [input, hash, fold, wrap, copy, download, clear] = ["input", "hash", "fold", "wrap", "copy", "download", "clear"].map($);
   const commas = (number) => number.toLocaleString("en");
 
   // ---- Messages
@@ -406,7 +406,7 @@ stack backtrace:
     sought = place;
     isFinished = false;
     if (text === "") fileName = "";
-    worker.postMessage({ turn: ++turn, text, hash: hash.checked, isWhole: isArea() });
+    worker.postMessage({ turn: ++turn, text, hash: hash.checked, fold: fold.checked, isWhole: isArea() });
     clear.disabled = text === "";
     for (const it of [copy, download, $("previous"), $("next")]) it.disabled = true;
     shown.begin();
@@ -698,7 +698,7 @@ stack backtrace:
     say(`Downloaded as ${link.download}.`);
   }
 
-  // ---- The two switches, which are stored for the next visit
+  // ---- The switches, which are stored for the next visit
 
   function kept(name, otherwise) {
     try {
@@ -727,6 +727,7 @@ stack backtrace:
       }
     });
     hash.addEventListener("change", () => { keep("hash", hash.checked ? "shown" : "hidden"); ask(false); });
+    fold.addEventListener("change", () => { keep("fold", fold.checked ? "on" : "off"); ask(false); });
     wrap.addEventListener("change", () => { keep("wrap", wrap.checked ? "on" : "off"); wrapLines(); });
     narrow.addEventListener("change", setWrap);
     copy.addEventListener("click", copyResult);
@@ -800,6 +801,7 @@ stack backtrace:
       return;
     }
     hash.checked = kept("hash", "hidden") === "shown";
+    fold.checked = kept("fold", "off") === "on";
     setWrap();
     listen();
     if (linked() !== null) showLinked();

@@ -91,7 +91,7 @@ function kodliweWorker(kodliwe) {
   }
 
   async function run(job) {
-    const { text, hash, isWhole } = job;
+    const { text, hash, fold, isWhole } = job;
     let news = { input: [], output: [], cut: [] };
     let count = 0, printed = 0, isFew = false, from = 0;
     const send = (isDone) => {
@@ -130,7 +130,7 @@ function kodliweWorker(kodliwe) {
       output.plain(text, kept, to);
       kept = to;
     }
-    for (const { start, end, path } of calls.symbols(text, { hash, limit })) {
+    for (const { start, end, path } of calls.symbols(text, { hash, fold, limit })) {
       if (path !== null) {
         // A wait costs more than most symbols do, so only a long text without symbols waits.
         if (start - kept > STRETCH && !(await keep(start))) return;

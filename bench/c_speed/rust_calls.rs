@@ -1,4 +1,4 @@
-//! Asks the proved library and the Rust crate for the same symbols. usage: rust_calls both|kodliwe|crate TURNS < RECORDS
+//! Calls the proved library and the Rust crate with the same symbols. usage: rust_calls both|kodliwe|crate TURNS < RECORDS
 //!
 //! A record is that of answers.c: 4 bytes of the symbol's length, 8 that are skipped, the symbol.
 use std::fmt::Write;

@@ -1,4 +1,5 @@
-/* Prints the longest time of a call whose output and limit are 4,096 bytes, each the best of five. The input is that of answers.c. */
+/* Prints the longest time of a call. The output and the limit have 4,096 bytes, and each time is the best of five. The input is
+ * that of answers.c. */
 #define _GNU_SOURCE
 #include "kodliwe.h"
 

@@ -1,10 +1,10 @@
-//! Asks the erased crate, the published crate or the proved archive for the same symbols.
+//! Calls the erased crate, the published crate or the proved archive with the same symbols.
 //!
 //! usage: three path|text WHICH ROUNDS < LINES, three time ROUNDS < LINES; WHICH is ours, theirs or archive
 //!
 //! `path` reads each line as a symbol and prints it with its hash. `text` demangles all of the input:
 //! the crates by their streams, the archive by its call for texts. `time` prints for each WHICH the
-//! nanoseconds that `path` takes for a symbol, the least of rounds in turn.
+//! nanoseconds that `path` takes for a symbol, the least of rounds that alternate.
 use std::fmt::Write;
 use std::hint::black_box;
 use std::io::Read;

@@ -6,10 +6,10 @@ usage: erase.py [--counts] REPOSITORY TARGET
 Reads crates.txt and crates/*/src/**/*.rt of REPOSITORY, and writes a cargo workspace to TARGET:
 the package `kodliwe`, where each library is a module (crates/demangle_v0/src/parser.rt becomes
 src/demangle_v0/parser.rs) and each program a binary (crates/kodliwe/src becomes src/bin/kodliwe),
-and the package `rustc-demangle`. The folder `template` beside this file has what is written by
-hand: the manifests, the library's front, the module `support` in place of the kit's library, and
-tests. The table of characters is crates/character_tables/stdout, which a program of the repository
-prints.
+and the package `rustc-demangle`. The folder `template` next to this file has the hand-written
+parts: the manifests, the public interface, the module `support` in place of the kit's library,
+and tests. The table of characters is crates/character_tables/stdout, which a program of the
+repository prints.
 
 A rule is about a construct of the language, and none about a function or a file of the repository.
 A construct that no rule knows ends the run with its file and line. The eraser is trusted: nothing
@@ -30,16 +30,18 @@ TEMPLATE = os.path.join(os.path.dirname(os.path.abspath(__file__)), "template")
 # The library is these crates with all that they use.
 LIBRARIES = ("rustc_demangle", "piece_buffer")
 PROGRAMS = ("kodliwe", "demangle_filter")
-# Crates for tests: the first is used by the programs' tests too, the second holds tests alone.
+# Crates for tests. The first is used by the programs' tests too, and the second has only tests.
 TEST_CRATES = ("test_doubles", "demangle_vectors")
 LICENCES = ("LICENSE", "LICENSE-MIT-rustc-demangle", "LICENSE-APACHE-rustc-demangle")
 TABLES = ("crates", "character_tables", "stdout")
-# What erased modules may have and hand-written ones may not: names that only clauses used, and
-# forms that the prover wants and Rust's style does not. Faults (clippy's other groups) are told.
+# Lints that are off for erased modules, and on for hand-written ones. They are about names that
+# only clauses used, and about forms that the prover needs. clippy's other groups stay on.
+# Without `std` some functions have no caller, because the stream is left out.
 ALLOWED = (
     "#[allow(unused_imports, unused_labels, unused_variables)]\n"
     "#[allow(clippy::complexity, clippy::style, clippy::manual_unwrap_or_default)]\n"
     "#[cfg_attr(test, allow(unused_assignments, clippy::suspicious))]\n"
+    '#[cfg_attr(not(feature = "std"), allow(dead_code))]\n'
 )
 
 
@@ -85,7 +87,7 @@ def fail(repository, file, error):
 
 
 def all_modules(repository, crates, libraries):
-    """Reads all modules, without those that hold laws alone or tests of what Rust does not have."""
+    """Reads all modules, except those of laws and those of tests of what Rust does not have."""
     modules = [m for name in libraries for m in read_modules(repository, name, False)]
     modules += [m for name in PROGRAMS for m in read_modules(repository, name, True)]
     for module in modules:
@@ -103,7 +105,7 @@ def all_modules(repository, crates, libraries):
 
 
 def is_law(module, modules, laws):
-    """Tells whether a module holds laws, or only declares modules that do."""
+    """Returns whether a module has only laws, or only declares modules that do."""
     if module.path in laws:
         return True
     names = [t for t in module.tokens if t.kind == "name"]
@@ -142,7 +144,7 @@ def with_head(note, lints, text):
 
 
 def declarations(libraries, modules):
-    """Returns the front's `mod` items."""
+    """Returns the `mod` items of the public interface."""
     roots = {m.path[0]: m for m in modules if len(m.path) == 1 and not m.program}
     lines = []
     for name in sorted(libraries):
@@ -160,7 +162,7 @@ def declarations(libraries, modules):
 
 
 def lay_out(target):
-    """Lays all files out by `cargo fmt`."""
+    """Formats all files by `cargo fmt`."""
     words = ["cargo", "fmt", "--all", "--manifest-path", os.path.join(target, "Cargo.toml")]
     if subprocess.run(words, check=False).returncode != 0:
         sys.exit("erase.py: `cargo fmt` failed")

@@ -83,7 +83,7 @@ class Module:
 
 
 def split_head(tokens):
-    """Parts a file's own comments from what follows them."""
+    """Splits a file's own comments from what follows them."""
     at = 0
     while at < len(tokens) and (tokens[at].kind == "space" or tokens[at].text.startswith("//!")):
         at += 1
@@ -136,7 +136,7 @@ def read_use(module, tokens, out, crates, kit_crates):
 
 
 def take_visibility(out):
-    """Takes `pub` or `pub(..)` back from the end of what was written."""
+    """Removes `pub` or `pub(..)` from the end of the output, and returns it."""
     at = len(out) - 1
     while at >= 0 and out[at].is_blank():
         at -= 1
@@ -180,7 +180,7 @@ def find_gated(modules):
 
 
 def rust_of(module, gated, written):
-    """Returns the file's Rust text, not yet laid out."""
+    """Returns the file's Rust text, not yet formatted."""
     path = ("crate", *module.path)
     if module.program or is_gated(path, gated):
         gated = set()  # It is behind the feature as a whole.

@@ -109,7 +109,7 @@ def end_of(tokens, at, ends):
 
 
 def is_remark(token):
-    """Tells whether a token is a comment that documents no item."""
+    """Returns whether a token is a comment that documents no item."""
     return token.kind == "comment" and not re.match(r"///(?!/)|//!|/\*[*!]", token.text)
 
 

@@ -105,7 +105,7 @@ def end_of_head(tokens, at):
 
 
 def is_model(tokens, at):
-    """Tells whether this `impl` is one of the trait `Model`, which clauses alone use."""
+    """Returns whether this `impl` is one of the trait `Model`, which only clauses use."""
     head = [t.text for t in tokens[at : end_of_head(tokens, at)] if not t.is_blank()]
     return "Model" in head and "for" in head[head.index("Model") :]
 
@@ -215,7 +215,7 @@ def make_runtimes(tokens):
 
 
 def refuse_left_overs(tokens):
-    """Fails at a ghost word, or a sign past ASCII outside of texts, that no rule knows."""
+    """Fails at a ghost keyword, or a character past ASCII outside of strings, that no rule knows."""
     for token in tokens:
         if token.is_name(*LEFT_OVERS):
             raise SourceError(token.line, f"no rule for `{token.text}`")
@@ -234,7 +234,7 @@ ITEMS = ("struct", "enum", "union", "const", "static", "trait", "impl", "type", 
 
 
 def says_nothing(tokens):
-    """Tells whether a module has only functions with empty bodies: it holds laws, not code."""
+    """Returns whether a module has only functions with empty bodies, which are laws."""
     tokens = [t for t in tokens if not t.is_blank()]
     functions, at = 0, 0
     while at < len(tokens):

@@ -1,14 +1,14 @@
-/* Asks the library for each symbol of standard input, at thirteen sizes of the output in both forms, and writes its answers.
+/* Calls the library for each symbol of standard input, at thirteen sizes of the output in both forms, and writes the results.
  *
  * A record of the input: 4 bytes of the symbol's length, 8 of the limit (all ones: none), the symbol. For each record, with the
  * hash and without it, the output has 4 bytes of what was returned, 4 of kodliwe_symbol_len, and the path. Each path is also read
- * in parts of several sizes, by the call that reads the symbol and by the one that is told how long its path is; the latter is
- * told other lengths too. The symbol ends, and each output ends, where a
- * page begins that can be neither read nor written; guard bytes stand before the output, and in it behind the NUL.
+ * in parts of several sizes, by the call that reads the symbol and by the one that gets the length of its path. The latter gets
+ * other lengths too. After the symbol, and after each output, comes a page that can be neither read nor written. Guard bytes are
+ * before the output, and in it after the NUL.
  *
- * With the word `quick` each symbol is asked at the four largest sizes alone, and not in parts.
+ * With the argument `quick`, each symbol is tried only at the four largest sizes, and not in parts.
  *
- * Status 1, with a line on standard error, where a call answers otherwise than kodliwe.h says. */
+ * Status 1, with a line on standard error, if a call does not do what kodliwe.h says. */
 #ifndef _GNU_SOURCE
 #define _GNU_SOURCE /* MAP_ANONYMOUS */
 #endif
@@ -23,7 +23,7 @@
 enum { PAGE = 4096, ROOM = 8 << 20, GUARD = 64, MARK = 0x5A };
 static const uint64_t NONE = UINT64_MAX;
 
-static char *symbol_end, *out_end; /* the pages behind them are fenced */
+static char *symbol_end, *out_end; /* the pages after them are fenced */
 static char *whole;
 static uint64_t limit;
 
@@ -56,10 +56,10 @@ static void try_size(const char *symbol, size_t len, bool hash, size_t want, siz
         if (out[i] != MARK) fail("a byte behind the NUL is changed", symbol, len, size);
 }
 
-/* What the answer of no call can be more than. */
+/* The bound of every result. */
 static size_t most(size_t len) { return (limit < 1000000 ? (size_t)limit : 1000000) + 21 + len; }
 
-/* The bytes in front of the output, and those of it from a place on, are as they were. */
+/* Checks that the bytes before the output, and those in it from an offset on, are unchanged. */
 static void try_guards(const char *symbol, size_t len, const char *out, size_t size, size_t from) {
     for (size_t i = 0; i < GUARD; i++)
         if (out[(ptrdiff_t)i - GUARD] != MARK) fail("a part changes a byte before the output", symbol, len, size);
@@ -67,7 +67,7 @@ static void try_guards(const char *symbol, size_t len, const char *out, size_t s
         if (out[i] != MARK) fail("a part changes a byte behind the NUL", symbol, len, size);
 }
 
-/* A part of what is printed where the path is said to have so many bytes; any other number harms nothing. */
+/* Prints a part, with this number as the length of the path. A wrong number does no harm. */
 static void try_length(const char *symbol, size_t len, bool hash, size_t path_len, size_t size, size_t start) {
     char *out = out_end - size;
     memset(out - GUARD, MARK, size + GUARD);
@@ -91,7 +91,7 @@ static void try_part(const char *symbol, size_t len, bool hash, size_t want, siz
     try_guards(symbol, len, out, size, kept);
 }
 
-/* The whole path in parts, and parts at and past its end. */
+/* Prints the complete path in parts, and parts at and after its end. */
 static void try_parts(const char *symbol, size_t len, bool hash, size_t want, size_t path_len) {
     const size_t sizes[] = {2, 8, 101, 70001}, starts[] = {want, want + 1, (size_t)PTRDIFF_MAX, SIZE_MAX - 1, SIZE_MAX};
     for (size_t i = 0; i < sizeof sizes / sizeof *sizes; i++) {

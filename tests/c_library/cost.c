@@ -1,4 +1,4 @@
-/* Makes one call for each symbol of standard input, whose output and limit are 4,096 bytes. The input is that of answers.c. */
+/* Makes one call for each symbol of standard input. Its output and limit are 4,096 bytes. The input is that of answers.c. */
 #include "kodliwe.h"
 
 #include <stdint.h>

@@ -1,4 +1,4 @@
-/* Makes each call in a signal handler on a stack of its own, and prints how many bytes of that stack the calls touch.
+/* Makes each call in a signal handler on a separate stack, and prints how many bytes of that stack the calls touch.
  * The input is that of answers.c. */
 #define _GNU_SOURCE
 #include "kodliwe.h"

@@ -1,7 +1,7 @@
-/* Makes each call for each text of standard input from two threads at once, which share the texts, and checks that the answers
- * agree with one another. It is built with a sanitizer. The input is that of answers.c, whose limits are not read.
+/* Makes each call for each text of standard input from two threads at once, which share the texts, and checks that the results
+ * agree. It is built with a sanitizer. The input is that of answers.c, whose limits are not read.
  *
- * Each text is copied to memory of its very size, and each answer goes to memory of its very size. */
+ * Each text is copied to memory of exactly its size, and each result is written to memory of exactly its size. */
 #include "kodliwe.h"
 
 #include <pthread.h>

@@ -1,8 +1,8 @@
-//! Prints what the library says of symbols, or of all characters.
+//! Prints the results of the library for symbols, or for all characters.
 //!
 //! usage: answers records < RECORDS, answers lines < SYMBOLS, answers characters
 //!
-//! A record is 4 bytes of a length, 8 bytes of a limit and the text; the limit `u64::MAX` is none.
+//! A record is 4 bytes of a length, 8 bytes of a limit and the text. The limit `u64::MAX` means no limit.
 //! For each it writes five fields with 4 bytes of their length before them: `OK` or `ERR`, `as_str`,
 //! the two printed forms, and the pieces of each form, with U+001F between them and U+001E between
 //! the forms. `lines` writes for each line `OK` or `ERR` and the two forms, with tabs between them.

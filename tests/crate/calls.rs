@@ -1,10 +1,11 @@
-//! Asks the published crate and the drop-in for the same symbols.
+//! Calls the published crate and the drop-in with the same symbols.
 //!
 //! usage: calls answers < RECORDS, calls stream HASH < TEXT, calls time ROUNDS < LINES, calls count WHICH ROUNDS < LINES
 //!
-//! A record is 4 bytes of a text's length and the text. Of each, `answers` writes for either whether it is a symbol, what
-//! `as_str` answers and the two printed forms, each with its length before it. `stream` writes the text as either copies
-//! it, with the lengths before. `time` prints nanoseconds a symbol, the least of rounds in turn, and `count` runs one alone.
+//! A record is 4 bytes of a text's length and the text. For each record and each crate, `answers` writes whether it is a
+//! symbol, the result of `as_str`, and the two printed forms, each after its length. `stream` writes the text as each
+//! crate copies it, after its length. `time` prints nanoseconds a symbol, the least of rounds in which the crates
+//! alternate. `count` runs one crate.
 use std::fmt::Write as _;
 use std::hint::black_box;
 use std::io::{Read, Write};

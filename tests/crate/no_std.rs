@@ -25,11 +25,11 @@ impl Write for Bytes<'_> {
     }
 }
 
-/// How many bytes the path has, or 0 where it does not fit.
+/// Returns how many bytes the path has, or 0 if it does not fit.
 ///
 /// # Safety
 ///
-/// `symbol` and `out` point to as many bytes as the sizes behind them say.
+/// `symbol` and `out` point to as many bytes as the sizes after them say.
 #[unsafe(no_mangle)]
 pub unsafe extern "C" fn path_of(
     symbol: *const u8,

@@ -1,5 +1,5 @@
-// The place of the published crate's modules, whose unit tests are put here: what they name of the crate, by its public
-// calls. Which error a refused symbol has inside is not told by any of them.
+// Replaces the published crate's modules, whose unit tests are put here. The names that they use are defined by the public
+// calls. No public call reports which error a rejected symbol has.
 extern crate rustc_demangle;
 
 pub use rustc_demangle::{demangle, try_demangle};
@@ -9,7 +9,7 @@ fn demangle_line(line: &str, output: &mut Vec<u8>, include_hash: bool) {
     rustc_demangle::demangle_stream(&mut line.as_bytes(), output, include_hash).unwrap()
 }
 
-// Of the module v0.
+// For the module v0.
 #[cfg(test)]
 mod refused {
     pub const MAX_DEPTH: u32 = 500;

@@ -3,11 +3,11 @@ import { spawnSync } from "node:child_process";
 import { createHash } from "node:crypto";
 import fs from "node:fs";
 import { createRequire } from "node:module";
-import { HOSTILE, HOSTILE_LINES, LOG, LOG_LINE, ODD, ODD_RESULT } from "./texts.mjs";
+import { FOLDED, HOSTILE, HOSTILE_LINES, LOG, LOG_LINE, ODD, ODD_RESULT } from "./texts.mjs";
 
 const require = createRequire(import.meta.url);
 const root = new URL("../../", import.meta.url).pathname;
-const PROGRAM = `${root}out/build/demangle_filter`;
+const PROGRAMS = `${root}out/build/`;
 const CORPUS = `${root}crates/demangle_corpus/stdin`;
 const BUILT = `${root}crates/demangle_web/out/kodliwe.wasm`;
 
@@ -55,9 +55,46 @@ function testCorpus(it, check) {
     `${count.symbols} symbols, ${count.others} others, ${count.limits} limits; wrong: ${wrong.length} ${wrong.slice(0, 3).join(" | ")}`);
 }
 
-function joined(it, text, hash) {
+function testFolding(it, check) {
+  const generic = "_RINvC3foo3barhE";
+  check("arguments are printed unless they are folded", it.demangle(generic) === "foo::bar::<u8>" && it.demangleText(generic) === "foo::bar::<u8>");
+  for (const [symbol, full, short] of FOLDED) {
+    const forms = [[true, full], [false, short]];
+    check(`folded: ${symbol}`, forms.every(([hash, path]) => it.demangle(symbol, { hash, fold: true }) === path));
+    // A text with half a character is demangled in parts.
+    const isText = (start) => forms.every(([hash, path]) => it.demangleText(`${start}${symbol} b`, { hash, fold: true }) === `${start}${path} b`);
+    check(`folded in a text: ${symbol}`, isText("é ") && isText("\ud800 "));
+  }
+  const options = { fold: true, limit: 4 };
+  check("a folded path's limit", it.demangle(`${generic}.cold.7`, options) === "foo{size limit reached}.cold.7");
+  check("a folded text's limit", it.demangleText(`a ${generic} b`, options) === "a foo{size limit reached} b");
+  const half = generic.slice(0, -1);
+  check("no symbol, folded", it.demangle(half, { fold: true }) === null && it.demangleText(half, { fold: true }) === half);
+}
+
+// The SHA-256 of the corpus's folded paths, each with its hash and without it, and a line feed after either. The paths
+// come from the crate with the change that docs/DEFINITIONS_CHECKED.md describes.
+const FOLDED_CORPUS = "1115a1606b838030f4d3de7343fa19ce82e129044f750537a7c938998f47f82c";
+
+// Folds each symbol of the corpus. The paths of 1,252 symbols then differ from those that are not folded.
+function testFoldedCorpus(it, check) {
+  const sum = createHash("sha256");
+  let count = 0, changed = 0;
+  for (const line of fs.readFileSync(CORPUS, "utf8").split("\n")) {
+    const fields = line.split("\t");
+    if (fields[0] === "\\limit" || fields[0] === "\\pieces" || fields[1] !== "OK") continue;
+    const text = plain(fields[0]);
+    const [full, short] = [true, false].map((hash) => it.demangle(text, { hash, fold: true }));
+    sum.update(`${full}\n${short}\n`);
+    count++;
+    if (!isField(full, fields[3])) changed++;
+  }
+  check("the stored corpus, folded", sum.digest("hex") === FOLDED_CORPUS && changed === 1252, `${count} symbols, ${changed} other paths`);
+}
+
+function joined(it, text, options) {
   let result = "", kept = 0;
-  for (const { start, end, path } of it.symbols(text, { hash })) {
+  for (const { start, end, path } of it.symbols(text, options)) {
     if (path === null) continue;
     result += text.slice(kept, start) + path;
     kept = end;
@@ -65,18 +102,27 @@ function joined(it, text, hash) {
   return result + text.slice(kept);
 }
 
+// The programs that the module is compared with, each with its options and those of the module.
+const COMPARED = [
+  ["with hashes", { hash: true }, "demangle_filter", []],
+  ["without hashes", { hash: false }, "demangle_filter", ["--no-hash"]],
+  ["folded, with hashes", { hash: true, fold: true }, "kodliwe", ["--fold", "--hash"]],
+  ["folded, without hashes", { hash: false, fold: true }, "kodliwe", ["--fold"]],
+];
+
 function testBesideProgram(it, check) {
-  if (!fs.existsSync(PROGRAM)) {
-    check("the program, which is compared with", false, `no ${PROGRAM}: \`make\` builds it`);
-    return;
-  }
   const corpus = fs.readFileSync(CORPUS, "utf8");
-  for (const [name, text] of [["corpus", corpus], ["log", LOG], ["log in one line", LOG_LINE], ["50 hostile", HOSTILE_LINES.slice(0, 50 * (HOSTILE.length + 1))]]) {
-    for (const hash of [true, false]) {
-      const run = spawnSync(PROGRAM, hash ? [] : ["--no-hash"], { input: text, maxBuffer: 1 << 30 });
-      const wanted = run.stdout.toString();
-      const isRight = run.status === 0 && wanted !== text && it.demangleText(text, { hash }) === wanted && joined(it, text, hash) === wanted;
-      check(`${name}, ${hash ? "with" : "without"} hashes, is the program's output`, isRight, `${wanted.length} characters`);
+  const texts = [["corpus", corpus], ["log", LOG], ["log in one line", LOG_LINE], ["50 hostile", HOSTILE_LINES.slice(0, 50 * (HOSTILE.length + 1))]];
+  for (const [how, options, program, flags] of COMPARED) {
+    if (!fs.existsSync(PROGRAMS + program)) {
+      check(`the program ${program}, which is compared with`, false, `it is not in ${PROGRAMS}: \`make\` builds it`);
+      continue;
+    }
+    for (const [name, text] of texts) {
+      const run = spawnSync(PROGRAMS + program, flags, { input: text, maxBuffer: 1 << 30 });
+      const expected = run.stdout.toString();
+      const isRight = run.status === 0 && expected !== text && it.demangleText(text, options) === expected && joined(it, text, options) === expected;
+      check(`${name}, ${how}, is the output of ${program}`, isRight, `${expected.length} characters`);
     }
   }
 }
@@ -94,17 +140,17 @@ export async function testModule(check) {
   const compiled = new WebAssembly.Module(bytes);
   check("the module asks nothing of its page", imports(compiled).length === 0);
   const named = exports(compiled).map((one) => one.name).filter((one) => one.startsWith("kodliwe_")).sort();
-  check("its calls", named.join() === "kodliwe_demangle_limited,kodliwe_demangle_text,kodliwe_is_symbol,kodliwe_run_len,kodliwe_run_start", named.join(" "));
+  check("its calls", named.join() === "kodliwe_demangle_folded,kodliwe_demangle_limited,kodliwe_demangle_text,kodliwe_demangle_text_folded,kodliwe_is_symbol,kodliwe_run_len,kodliwe_run_start", named.join(" "));
   const it = await kodliwe.load(bytes);
   check("a path", () => it.demangle("_ZN3foo17h05af221e174051e9E") === "foo");
   check("a path with its hash", () => it.demangle("_ZN3foo17h05af221e174051e9E", { hash: true }) === "foo::h05af221e174051e9");
   check("a suffix behind the marker", () => it.demangle("_ZN3foo3barE.cold.7", { limit: 4 }) === "foo{size limit reached}.cold.7");
   check("no symbol", () => it.demangle("_ZN3foo") === null && it.demangle("é") === null && it.demangle("") === null);
   check("a hostile symbol ends at the limit", () => it.demangle(HOSTILE, { limit: 16384 }).length === 16384 + 20);
-  check("a text that loses nothing", () => it.demangleText(ODD) === ODD_RESULT && joined(it, ODD, false) === ODD_RESULT);
+  check("a text that loses nothing", () => it.demangleText(ODD) === ODD_RESULT && joined(it, ODD, {}) === ODD_RESULT);
   check("a text without symbols", () => it.demangleText("_R _ZN\r\n") === "_R _ZN\r\n" && it.demangleText("") === "");
   check("a text's limit", () => it.demangleText("a _ZN3foo3barE b", { limit: 4 }) === "a foo{size limit reached} b");
-  for (const test of [testCorpus, testBesideProgram]) {
+  for (const test of [testFolding, testCorpus, testFoldedCorpus, testBesideProgram]) {
     try {
       test(it, check);
     } catch (error) {

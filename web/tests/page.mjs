@@ -7,7 +7,7 @@ import os from "node:os";
 import path from "node:path";
 import { fileURLToPath } from "node:url";
 import { sleep, start } from "./driver.mjs";
-import { HOSTILE, HOSTILE_LINE, HOSTILE_LINES, LOG, LOG_LINE, ODD, ODD_RESULT } from "./texts.mjs";
+import { FOLDED, HOSTILE, HOSTILE_LINE, HOSTILE_LINES, LOG, LOG_LINE, ODD, ODD_RESULT } from "./texts.mjs";
 
 const require = createRequire(import.meta.url);
 const WEB = fileURLToPath(new URL("../", import.meta.url));
@@ -167,6 +167,9 @@ export async function testPage(kind, check, shots) {
 
   const address = () => evaluate("location.href");
 
+  // Returns whether each of the two switches for paths is on.
+  const switches = () => evaluate(`["hash", "fold"].map((id) => document.getElementById(id).checked).join()`);
+
   try {
     await browser.allow();
     await browser.downloads(folder);
@@ -175,7 +178,7 @@ export async function testPage(kind, check, shots) {
       await visit(`${url}#try`);
       say(`runs from ${name}`, (await output()).includes("std::panicking::begin_panic\n") && (await value("fault")) === "");
     }
-    for (const part of [typing, wording, bringing, wrapping, linking, choosing, switching, copying, stepping, files, staying, pictures]) {
+    for (const part of [typing, wording, bringing, wrapping, linking, choosing, switching, folding, copying, stepping, files, staying, pictures]) {
       // an error of one part does not end the others
       await part().catch((error) => say(`the part ${part.name} ends`, false, error.stack));
     }
@@ -217,7 +220,7 @@ export async function testPage(kind, check, shots) {
     say(`and marks it in both`, (await evaluate('document.querySelectorAll("mark.current").length')) === 2);
   }
 
-  // Opens the page again, with both switches off and an empty text area that has the focus.
+  // Opens the page again, with all switches off and an empty text area that has the focus.
   async function empty() {
     await evaluate("localStorage.clear(); 0");
     await visit(FILE);
@@ -385,6 +388,54 @@ export async function testPage(kind, check, shots) {
     await done();
   }
 
+  async function folding() {
+    const lines = (column) => FOLDED.map((it) => it[column]).join("\n");
+    const shows = (text) => until(async () => (await output()) === text);
+    await empty();
+    say("arguments are not folded at first", (await switches()) === "false,false");
+    await paste("a _RINvC3foo3barhE b");
+    say("and are printed", (await output()) === "a foo::bar::<u8> b", await output());
+    await evaluate('document.getElementById("fold").focus(); 0');
+    await browser.key(" ");
+    say("the switch folds them", await shows("a foo::bar::<_> b"), await output());
+    say("the text stays", (await value("input", "value")) === "a _RINvC3foo3barhE b");
+    await click("next");
+    say("the path is shown folded", (await value("path")) === "foo::bar::<_>", await value("path"));
+    await evaluate("input.focus(); input.select(); 0");
+    await paste(lines(0));
+    say("a pasted text is folded", await shows(lines(2)), await output());
+    await evaluate("input.focus(); input.setSelectionRange(0, 0); 0");
+    await type("_RINvC3foo3barhE ");
+    say("a typed symbol is folded", await shows(`foo::bar::<_> ${lines(2)}`), await output());
+    await click("hash");
+    say("hashes are shown in folded paths", await shows(`foo::bar::<_> ${lines(1)}`), await output());
+    await click("hash");
+    await visit(FILE);
+    say("the switch for folding is kept for the next visit", (await switches()) === "false,true", await switches());
+    await folded(lines);
+    await visit(`${FILE}#symbol=_RNvMC3fooINtB2_3BarlE3baz`);
+    say("the symbol of a link is folded", (await output()) === "<foo::Bar<_>>::baz", await output());
+    await visit(`${FILE}#try`);
+    say("the example is folded", (await output()).includes(" alloc::alloc::box_free::<_>\n"), await output());
+    await click("fold");
+    say("the switch unfolds", await until(async () => (await output()).includes(" alloc::alloc::box_free::<dyn alloc::boxed::FnBox<(), Output = ()>>\n")), await output());
+    await visit(FILE);
+    say("that is kept too", (await switches()) === "false,false", await switches());
+  }
+
+  // Folds the symbols of a small file, which is edited, and of a large one, which is only shown.
+  async function folded(lines) {
+    for (const [name, copies] of [["small", 1], ["large", 1000]]) {
+      const [text, expected] = [0, 2].map((column) => `${lines(column)}\n`.repeat(copies));
+      await open(`${name}.txt`, text);
+      await done();
+      say(`a ${name} file is folded`, (await value("input", "hidden")) === copies > 1 && (await output()) === expected);
+      await click("download");
+      const saved = path.join(folder, `${name}.demangled.txt`);
+      say(`a ${name} file is downloaded folded`, await until(() => fs.existsSync(saved) && fs.readFileSync(saved, "utf8") === expected));
+    }
+  }
+
   async function copying() {
     await open("crlf.txt", "1 _ZN3foo3barE\r\n2 _RNvC3foo3bar\r\n");
     await done();
@@ -408,11 +459,11 @@ export async function testPage(kind, check, shots) {
     await visit(`${FILE}#try`);
     await evaluate('document.getElementById("hash").focus(); 0');
     const order = [];
-    for (let turn = 0; turn < 10; turn++) {
+    for (let turn = 0; turn < 11; turn++) {
       order.push(await evaluate('document.activeElement.id'));
       await browser.key("Tab");
     }
-    say("the order of the keyboard", order.join() === "hash,wrap,example,file,clear,copy,download,previous,next,input", order.join());
+    say("the order of the keyboard", order.join() === "hash,fold,wrap,example,file,clear,copy,download,previous,next,input", order.join());
     say("the result is after it", (await evaluate("document.activeElement.id")) === "output");
     for (const wanted of ["_ZN3std9panicking11begin_panic17h3f1a9c2b7d5e6041E", "_ZN71_$LT$Test"]) {
       await evaluate('document.getElementById("next").focus(); 0');
@@ -427,7 +478,7 @@ export async function testPage(kind, check, shots) {
       const nodes = await browser.names();
       const controls = nodes.filter(({ role }) => ["button", "switch", "checkbox", "textbox", "region"].includes(role));
       const nameless = controls.filter((it) => it.name === "");
-      say("every control has a name in the accessibility tree", controls.length >= 12 && nameless.length === 0, controls.map((it) => `${it.role} ${it.name}`).join(", "));
+      say("every control has a name in the accessibility tree", controls.length >= 13 && nameless.length === 0, controls.map((it) => `${it.role} ${it.name}`).join(", "));
     }
     const moving = await evaluate(`[...document.querySelectorAll("*")].flatMap((it) => [it, it.matches("input") ? "::before" : null].map((one) => one === null ? null : getComputedStyle(it, typeof one === "string" ? one : null))).filter((it) => it && (it.transitionDuration !== "0s" || it.animationName !== "none")).length`);
     say("nothing moves", moving === 0);

@@ -10,6 +10,17 @@ const named = (n) => {
 };
 
 export const LOG = Array.from({ length: 40000 }, (_, n) => `${n}: ${named(n)}\n`).join("");
+// Symbols with their paths, with folded generic arguments and a hash, and without the hash. The paths come from the
+// crate with the change that docs/DEFINITIONS_CHECKED.md describes.
+export const FOLDED = [
+  ["_RINvC3foo3barhE", "foo::bar::<_>", "foo::bar::<_>"],
+  ["_RNvMC3fooINtB2_3BarlE3baz", "<foo::Bar<_>>::baz", "<foo::Bar<_>>::baz"],
+  ["_RINvCs1234_3foo3barhE", "foo[3c1c0]::bar::<_>", "foo::bar::<_>"],
+  ["_RINbNbCskIICzLVDPPb_5alloc5alloc8box_freeDINbNiB4_5boxed5FnBoxuEp6OutputuEL_ECs1iopQbuBiw2_3std",
+    "alloc[f15a878b47eb696b]::alloc::box_free::<_>", "alloc::alloc::box_free::<_>"],
+  ["_ZN11_$LT$u8$GT$3bar17h05af221e174051e9E", "<u8>::bar::h05af221e174051e9", "<u8>::bar"],
+];
+
 export const LOG_LINE = LOG.replaceAll("\n", " ");
 export const HOSTILE_LINES = `${HOSTILE}\n`.repeat(5000);
 export const HOSTILE_LINE = `${HOSTILE} `.repeat(5000);

@@ -63,12 +63,13 @@ impl Property {
     }
 }
 
-/// Returns the word of a run: 32 times the code point after the run, plus the run's number.
+/// Returns the table's entry for a run of code points: 32 times the code point after the run, plus
+/// the run's number.
 fn word(end: u32, number: u8) -> u64 {
     u64::from(end) * 32 + u64::from(number)
 }
 
-/// Prints a property's table, a word for each run of code points with one number.
+/// Prints a property's table, an entry for each run of code points with one number.
 fn print_table<W: Write>(property: Property, output: &mut W) -> io::Result<()> {
     write!(
         output,

@@ -92,7 +92,8 @@ pub fn write_part(
     write_part_formatted(symbol, out, format, start)
 }
 
-/// Writes a path as `write_part` does, in a format. The limit of the format is `MAX_SIZE` at most.
+/// Writes a path as `write_part` does, in a format, and returns the same number. A limit of the
+/// format above `MAX_SIZE` counts as `MAX_SIZE`.
 pub fn write_part_formatted(symbol: &[u8], out: &mut [u8], format: Format, start: usize) -> usize
     ensures none { (IsRustSymbol symbol.now → ⊥) → (result ≡ 0) × (out.new ≡ out.old) }
     ensures size { IsRustSymbol symbol.now →
@@ -135,8 +136,8 @@ pub fn write_text(text: &[u8], out: &mut [u8], include_hash: bool, limit: usize)
     write_text_formatted(text, out, format)
 }
 
-/// Writes a text as `write_text` does, with each symbol printed in a format. The limit of the format is
-/// `MAX_SIZE` at most.
+/// Writes a text as `write_text` does, with each symbol printed in a format, and returns the same
+/// number. A limit of the format above `MAX_SIZE` counts as `MAX_SIZE`.
 pub fn write_text_formatted(text: &[u8], out: &mut [u8], format: Format) -> usize
     ensures size { let capped = record format { limit = min format.limit MAX_SIZE } in
         let filtered = filtered_in capped text.now in

@@ -20,7 +20,7 @@ pub fn report<E: Write>(errors: &mut E, line: &str, status: u8) -> u8
     status
 }
 
-/// Returns the line that reports a fault.
+/// Returns the line that reports an error.
 fn line_of(fault: &StreamFault) -> &'static str {
     match fault {
         StreamFault::Read(_) => "demangle_filter: read failed\n",
@@ -36,8 +36,7 @@ fn line_of(fault: &StreamFault) -> &'static str {
 ///
 /// # Errors
 ///
-/// Returns the line that reports the fault. If the flush fails, that fault is reported before any
-/// other.
+/// Returns the line that reports the error. If the flush fails, it reports that error and no other.
 fn filter<R: BufRead, W: Write>(
     alloc: Global,
     input: &mut R,

@@ -19,6 +19,7 @@ fn arguments(rt: &(impl Env + AllocGlobal)) -> io::Result<Vec<String>> {
     Ok(args.skip(1).collect::<Vec<String>>(rt.alloc())?)
 }
 
+/// Runs the program over the standard streams, and returns its exit status.
 fn main(rt: HostRuntime) -> ExitCode {
     let alloc = rt.alloc();
     let mut errors = rt.stderr().lock();

@@ -106,7 +106,8 @@ fn escaped_char(symbol: &Symbol<'_>, digits: Part, looks: &mut Looks) -> Option<
     escaped_code(code)
 }
 
-/// Returns the character for two letters between `$`, if they are an escape.
+/// Returns the character for two letters between `$`, or `None` if they are not an escape. The
+/// first must not be `u`, which starts an escape by digits.
 #[tactic(auto, unfolding(crate::specs::Unescaped::escape_of))]
 fn letters(first: u8, second: u8) -> Option<char>
     requires { first ≢ 117 }

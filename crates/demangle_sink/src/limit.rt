@@ -9,6 +9,7 @@ use crate::{SinkRefused, TextSink};
 #[derive(Drop)]
 pub struct SizeLimitedFmtAdapter<'s, S: TextSink> {
     out: &'s mut S,
+    /// How many more bytes may be passed to the sink.
     remaining: usize,
     /// Whether a piece exceeded the limit.
     is_limit_reached: bool,

@@ -1,4 +1,4 @@
--- The points of the arguments of a path.
+-- The continuations of a path's generic arguments.
 use Rattle.std.specs.Prelude.{◌*◌, ◌&&◌}
 use Rattle.std.proofs.Common.{◌≡◌, ℕ, ◌+◌, ◌≤◌, Bool, true, false, Some, List, [], ◌∷◌, ◌++◌, Result, Ok, refl, arith, ap, ◌∙◌, length}
 use Prim.Native.Char.{code}
@@ -26,7 +26,7 @@ use Rattle.demangle_v0_grammar.proofs.ListTraces.{followed, argument_lifetime, a
 use Rattle.demangle_v0.proofs.StepCases.{Within, alike, text_step}
 use Rattle.demangle_v0.proofs.ListSteps.{trace_left, open_at, shut_at, over_trace, on_trace, list_ends}
 
--- what an argument at this place is
+-- which kind of argument the bytes at this place start
 pub record Told (b : List ℕ) (i : ℕ) : Type 0 where
   pub primitive_count : length (argument_costs b i) ≤ 2
   pub most : total (argument_costs b i) ≤ 2
@@ -56,7 +56,7 @@ module _ {V : Type 0} (e : Env V) (s : State) where
   list_so true i w = ap with_closed_bracket (unfolded e.form.include_hash (print_str ">" done) about i w)
   list_so false i w = refl
 
-  -- an argument, and what follows
+  -- an argument, and the items after it
   pub argument_reads : (i : ℕ) (k : Place → Trace)
       → followed (open_at e argument s (Some i)) k
       ≡ with_looks (argument_costs e.symbol i) (followed (trace_of_state e.symbol e.form e.output.is_printed (argument_continuation e.symbol i) (record s { in_value = false; place = Some (argument_place e.symbol i) })) k)
@@ -69,7 +69,7 @@ module _ {V : Type 0} (e : Env V) (s : State) where
       go false true p q = rw (p, q) (argument_constant e.form.include_hash e.output.is_printed about i k p q)
       go false false p q = rw (p, q) (argument_type e.form.include_hash e.output.is_printed about i k p q)
 
-  -- one of a list of them, behind the look at its end
+  -- the next argument of a list, after the look for its end
   pub arguments_trace : (first : Bool) (z : Items) (i : ℕ) → Fits continuation.NextArgument s.depth_left s.lifetimes → is_byte e.symbol i (code "E") ≡ false → open_at e (trace_left first ", " argument z (more ", " argument z)) s (Some i)
       ≡ with_looks (1 ∷ []) (with_texts e.output.is_printed (pending_texts (separator first fixed.Comma)) (with_looks (argument_costs e.symbol i)
       (followed (trace_of_state e.symbol e.form e.output.is_printed (argument_continuation e.symbol i) (record s { in_value = false; place = Some (argument_place e.symbol i) })) (open_at e (more ", " argument z) s))))

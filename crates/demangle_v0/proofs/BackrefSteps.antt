@@ -1,4 +1,4 @@
--- References.
+-- Back references.
 use Rattle.std.specs.Prelude.{◌*◌, ◌^◌, if◌then◌else◌}
 use Rattle.std.proofs.lemmas.Bool.{false≢true}
 use Rattle.std.proofs.Common.{◌≡◌, ℕ, zero, suc, sub-one, ◌+◌, ◌-◌, ◌<◌, ◌≤◌, length, Bool, true, false, Some, None, List, [], ◌∷◌, ◌++◌, Ok, Err, refl, arith, sym, ap, ◌∙◌}
@@ -41,7 +41,7 @@ shut_ended : (closed : Bool) (i : Place) → none_open_if closed (empty_trace i 
 shut_ended true i = refl
 shut_ended false i = refl
 
--- The units to which references lead.
+-- The productions at which back references point.
 
 pub unit_path : (b : List ℕ) (form : Form) (v : Bool) (c n : ℕ) → IsProduction b form continuation.Path v c n true a_path v
 unfolding trace_at
@@ -98,7 +98,7 @@ module _ {V : Type 0} (output : Ghosts V) (b : List ℕ) (form : Form) where
       go (Some r) = omega arith
 
 module _ {V : Type 0} {e : Env V} where
-  -- a unit that is over
+  -- a production that is complete
   pub stays_over : {t : Machine V} → t.state.pending_text ≡ None → PerformsAt e continuation.End t (Ok continuation.End) t
   unfolding then_frame trace_at
   stays_over k = text_step continuation.End [] [] (omega arith) None (rw k refl) refl (record { grows = omega arith; within = omega arith }) (omega arith) (omega arith) (omega arith) (omega arith) (omega arith) tt tt (λ _. tt)
@@ -110,7 +110,7 @@ module _ {V : Type 0} {e : Env V} where
       let ks = (read_backref e.symbol s.depth_left s.place).costs in
       ends m ks (refer_few e.symbol s.depth_left s.place) q (shut_trace e.output e.symbol e.form closed s.depth_left k v s.lifetimes s.place (NotFollowed m) r ∙ ap (with_looks ks) (shut_fault closed e.output.is_printed m)) p (omega (arith, p.within, refer_short e.symbol s.depth_left s.place)) (omega arith)
 
-  -- it is not followed
+  -- the reference is not followed
   pub target_hidden : {t : Machine V} {n : ℕ} (closed : Bool) (k : Kind) (v : Bool) (a j : ℕ) → Target a j ≡ (read_backref e.symbol t.state.depth_left t.state.place).refers → LooksWithin t.looks (read_backref e.symbol t.state.depth_left t.state.place).costs n → e.output.is_printed ≡ false → t.state.pending_text ≡ None
       → Performs e t (target_part e closed k v t.state) (Ok continuation.End) (record t { state = record t.state { place = Some j; is_bracket_open = false }; looks = n })
   unfolding then_frame trace_at
@@ -123,7 +123,7 @@ module _ {V : Type 0} {e : Env V} where
       ∙ (ap (with_looks ks) (shut_ended closed (Some j)) ∙ rw m refl)))
       refl (rw append-nil p) (omega arith) (omega (arith, p.within, refer_short e.symbol s.depth_left s.place)) (omega (arith, ref_paid e.output e.symbol e.form s.depth_left a j s.place r)) (omega arith) (omega arith) tt tt (λ _. tt)
 
-  -- it is followed
+  -- the reference is followed
   pub target_shown : {t : Machine V} {stack : List Frame} {n most : ℕ} (p : Continuation) (closed : Bool) (k : Kind) (v : Bool) (a j : ℕ) → IsProduction e.symbol e.form p t.state.in_value t.state.letter t.state.lifetimes closed k v → Target a j ≡ (read_backref e.symbol t.state.depth_left t.state.place).refers
       → LooksWithin t.looks (read_backref e.symbol t.state.depth_left t.state.place).costs n → e.output.is_printed ≡ true → 0 < t.state.depth_left → j < 2 ^ 64 → CanRead continuation.Path most t.state t.stack
       → stack ≡ t.stack ++ frame_of continuation.AfterBackref t.state.in_value t.state.letter t.state.depth_left j ∷ []
@@ -142,7 +142,7 @@ module _ {V : Type 0} {e : Env V} where
       w (rw append-nil within_budget) (omega arith) (omega (arith, within_budget.within, refer_short e.symbol s.depth_left s.place)) (omega (arith, ref_paid e.output e.symbol e.form s.depth_left a j s.place r, unit.light, way_light p)) (omega arith) (omega (arith, d, unit.low (s.depth_left - 1))) small
       (unit.fits (s.depth_left - 1) (omega (arith, can_step.fits, d))) (λ h. absurd (false≢true (sym h ∙ q)))
 
-  -- behind the reference
+  -- after the reference
   pub continues_after : {t : Machine V} → t.state.pending_text ≡ None → PerformsAt e continuation.AfterBackref t (Ok continuation.End) (record t { state = record t.state { place = Some t.state.lifetimes } })
   unfolding then_frame trace_at
   continues_after k = text_step continuation.End [] [] (omega arith) None (rw k refl) refl (record { grows = omega arith; within = omega arith }) (omega arith) (omega arith) (omega arith) (omega arith) (omega arith) tt tt (λ _. tt)

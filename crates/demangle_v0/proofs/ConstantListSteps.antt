@@ -1,4 +1,4 @@
--- The points of lists of constants.
+-- The continuations of lists of constants.
 use Rattle.std.specs.Prelude.{if◌then◌else◌}
 use Rattle.std.proofs.Common.{Bool, true, false, refl, arith}
 use Rattle.demangle_v0_grammar.specs.Items.{Items, print, done}
@@ -13,16 +13,16 @@ use Rattle.demangle_v0.specs.declared.parser.constant_lists.ConstantList.TheVari
 use Rattle.demangle_v0_grammar.proofs.ListProgress.{field_element}
 use Rattle.demangle_v0.proofs.ListSteps.{Units, Listed, constant_units, of_units}
 
--- what a list ends with
+-- the items at the end of a list
 abbrev ending : ConstantList → Items
 ending l = print (text (close_of l)) done
 
--- what stands behind its first
+-- the items after the first element
 abbrev after_second : ConstantList → Items
 after_second list.Tuple = at_end (print_str "," (ending list.Tuple)) (more ", " constant_inside (ending list.Tuple))
 after_second l = more ", " (list_element l) (ending l)
 
--- where its first is read, or another
+-- the continuation that reads the first element, or a further one
 abbrev list_point : Bool → ConstantList → Continuation
 list_point first l = if first then at_first l else after_next l
 

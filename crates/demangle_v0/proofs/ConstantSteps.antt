@@ -1,4 +1,4 @@
--- The points of constants.
+-- The continuations of constants.
 use Rattle.std.proofs.lemmas.List.{append-nil}
 use Rattle.std.proofs.Common.{◌≡◌, ℕ, Bool, false, List, ap}
 use Rattle.demangle_v0_grammar.specs.Items.{Items, done, unit}
@@ -11,16 +11,16 @@ use Rattle.demangle_v0.specs.declared.parser.State.{State}
 use Rattle.demangle_v0_tokens.specs.declared.output.Output.{Ghosts}
 use Rattle.demangle_v0.proofs.StepRules.{trace}
 
--- what is heard of these items where the state stands
+-- the trace of these items from the place of the state
 abbrev pub items_of : {V : Type 0} → Env V → Items → State → Trace
 items_of e p s = trace e.output e.symbol e.form p s.depth_left s.lifetimes s.place
 
--- these items are all that the point still reads
+-- these items are the remaining ones of the continuation
 abbrev pub Inside : {V : Type 0} → Env V → Continuation → Items → Type 0
 Inside e p q = (v : Bool) (c left n : ℕ) (i : Place) (o : Bool) → trace_at e.symbol e.form e.output.is_printed p v c left n i o ≡ trace e.output e.symbol e.form q left n i
 
 module _ {V : Type 0} (output : Ghosts V) (b : List ℕ) (form : Form) where
-  -- a unit alone
+  -- a production that is the last item
   pub last_unit : (p : Items) (left n : ℕ) (i : Place) → with_closed_bracket (of form.include_hash output.is_printed (parse (unit p done) (context_at b form.fold_arguments output.is_printed left n) i)) ≡ with_closed_bracket (of form.include_hash output.is_printed (parse p (context_at b form.fold_arguments output.is_printed left n) i))
   unfolding parse
   last_unit p left n i = let o = parse p (context_at b form.fold_arguments output.is_printed left n) i in ap (λ xs. record { events = xs; place = o.place; is_bracket_open = false }) (append-nil (events form.include_hash output.is_printed o.tree))

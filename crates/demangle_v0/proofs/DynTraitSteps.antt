@@ -1,4 +1,4 @@
--- The points of dyn types.
+-- The continuations of dyn types.
 use Rattle.std.specs.Prelude.{◌*◌, if◌then◌else◌, codes}
 use Rattle.std.proofs.Common.{◌≡◌, ℕ, ◌+◌, ◌-◌, ◌<◌, ◌≤◌, length, Bool, true, false, Option, Some, None, List, [], ◌∷◌, ◌++◌, Result, Ok, refl, arith, sym, ap, ◌∙◌}
 use Prim.Native.Char.{code}
@@ -57,11 +57,11 @@ traits_point first = if first then continuation.FirstDynTrait else continuation.
 abbrev open_point : Bool → Continuation
 open_point first = if first then continuation.FirstTraitArgument else continuation.NextTraitArgument
 
--- behind the name of a binding
+-- the items after the name of a binding
 abbrev pub after_name : Items
 after_name = unit binding_value (bindings_left true)
 
--- what bindings print at their end, and each of them first
+-- the text that bindings print at their end, and the text before each binding
 abbrev closing_text : Bool → Option FixedText
 closing_text o = if o then Some fixed.Greater else None
 
@@ -80,7 +80,7 @@ module _ {V : Type 0} (e : Env V) (s : State) where
   abbrev about : Context
   about = context_at e.symbol e.form.fold_arguments e.output.is_printed s.depth_left s.lifetimes
 
-  -- a frame that the state leaves
+  -- a frame that the state makes
   abbrev frame_rest : Continuation → Place → Bool → Trace
   frame_rest p = trace_of_frame e.symbol e.form e.output.is_printed (frame_at p s)
 
@@ -117,7 +117,7 @@ module _ {V : Type 0} (e : Env V) (s : State) where
       ∙ (trait_path_plain e.form.include_hash e.form.fold_arguments e.output.is_printed e.symbol s.depth_left s.lifetimes i h k
       ∙ ap (λ (x : Bool). with_looks (1 ∷ 1 ∷ []) (record { events = g.events; place = g.place; is_bracket_open = x })) (unit_closed e.symbol e.form.fold_arguments e.output.is_printed s.depth_left s.lifetimes a_path false (Some i) tt)))
 
-  -- Bindings, and the dyn traits behind them.
+  -- Bindings, and the dyn traits after them.
 
   abbrev traits : Place → Bool → Trace
   traits j o = shut_at e next_traits s j
@@ -148,7 +148,7 @@ module _ {V : Type 0} (e : Env V) (s : State) where
   abbrev name_trace : ℕ → Trace
   name_trace i = shut_at e (token_items token_kind.BindingName 0 after_name) s (Some i)
 
-  -- what is bound, and what stands behind it
+  -- the value of a binding, and the items after it
   after_reads : (i : Place) → shut_at e after_name s i ≡ followed (open_at e binding_value s i) (shut_at e (bindings_left true) s)
   unfolding parse
   after_reads i = refl
@@ -175,11 +175,11 @@ module _ {V : Type 0} (e : Env V) (s : State) where
   on_reads : (o : Bool) (i : ℕ) → s.depth_left ≤ max_depth → is_byte e.symbol i (code "p") ≡ true → shut_at e (bindings_left o) s (Some i) ≡ with_looks (1 ∷ []) (with_texts e.output.is_printed (mark_of o ∷ []) (name_trace (i + 1)))
   on_reads o i l p = left_reads o (Some i) ∙ go (identifier_at e.symbol (i + 1)) refl
     where
-      -- looks, and texts behind them
+      -- looks, and then texts
       out_of : (x : ℕ) (ts : List Text) (h : Trace) → and_then (with_looks (x ∷ []) (with_texts e.output.is_printed ts h)) traits ≡ with_looks (x ∷ []) (with_texts e.output.is_printed ts (and_then h traits))
       out_of x ts h = allowing_then (x ∷ []) (with_texts e.output.is_printed ts h) traits ∙ ap (with_looks (x ∷ [])) (handing_then e.output.is_printed ts h traits)
 
-      -- behind the mark
+      -- after the pending text
       with_text : (x : ℕ) (ts : List Text) (h k : Trace) → open_at e (bindings o binding_value) s (Some i) ≡ with_looks (1 ∷ []) (with_texts e.output.is_printed (mark_of o ∷ []) (with_looks (x ∷ []) (with_texts e.output.is_printed ts h))) → and_then h traits ≡ k
           → name_trace (i + 1) ≡ with_looks (x ∷ []) (with_texts e.output.is_printed ts k) → and_then (open_at e (bindings o binding_value) s (Some i)) traits ≡ with_looks (1 ∷ []) (with_texts e.output.is_printed (mark_of o ∷ []) (name_trace (i + 1)))
       with_text x ts h k y z w =
@@ -195,7 +195,7 @@ module _ {V : Type 0} (e : Env V) (s : State) where
           with_text (4 * (r.1 - (i + 1) + 1)) (name_pieces r.0 ++ codes " = " ∷ []) (and_then (open_at e binding_value s (Some r.1)) m) (shut_at e after_name s (Some r.1)) (binding_reads e.form.include_hash e.form.fold_arguments e.output.is_printed e.symbol s.depth_left s.lifetimes o i r.1 r.0 l p f)
           (and_then_assoc (open_at e binding_value s (Some r.1)) m traits ∙ further (Some r.1)) (a_name (i + 1) r.1 r.0 f)
 
-  -- What is bound.
+  -- The value of a binding.
 
   bound_reads : (i : Place) (prefix : List ℕ) (g : Trace) → s.place ≡ i → open_at e binding_value s i ≡ with_looks prefix g
       → trace_of_state e.symbol e.form e.output.is_printed continuation.BindingValue s ≡ with_looks prefix (and_then (with_closed_bracket g) (frame_rest continuation.FurtherBindings))
@@ -301,7 +301,7 @@ module _ {V : Type 0} {e : Env V} where
       (rw (at, m) (on_reads e t.state o i (omega (arith, f)) h ∙ ap (λ (x : Text). with_looks (1 ∷ []) (with_texts e.output.is_printed (x ∷ []) (name_trace e t.state (i + 1)))) (first_text o))) refl
       (one_look l) (omega arith) (rw at (omega (arith, l))) (omega arith) (omega arith) (omega arith) tt f (λ _. tt)
 
-  -- What is bound.
+  -- The value of a binding.
 
   binds : {t : Machine V} {stack : List Frame} {j : Place} {n : ℕ} (to : Continuation) (i : Place) (ks : List ℕ) (g : Trace) → length ks ≤ 8 → total ks ≤ 2 → t.state.place ≡ i → open_at e binding_value t.state i ≡ with_looks ks g → with_closed_bracket g ≡ trace_of_state e.symbol e.form e.output.is_printed to (record t.state { in_value = false; place = j })
       → LooksWithin t.looks ks n → n ≤ t.looks + step_looks_bound e.symbol t.state.place → t.state.pending_text ≡ None → weight_left to ≤ 1 → height_at to t.state.depth_left ≤ 8 * t.state.depth_left + 1 → Fits continuation.BindingValue t.state.depth_left t.state.lifetimes → Fits to t.state.depth_left t.state.lifetimes

@@ -1,4 +1,4 @@
--- Points that do no more than leave a mark.
+-- Continuations that only queue a fixed text.
 use Rattle.std.proofs.Common.{◌≡◌, ℕ, Bool, true, false, Option, Some, None, List, [], ◌∷◌, Ok, refl, arith, ap, ◌∙◌}
 use Rattle.demangle_v0_grammar.specs.Traces.{with_texts}
 use Rattle.demangle_v0_tokens.specs.Texts.{text}

@@ -1,4 +1,4 @@
--- The points of function types, and binders.
+-- The continuations of function types, and binders.
 use Rattle.std.specs.Prelude.{◌*◌, if◌then◌else◌}
 use Rattle.std.proofs.Common.{◌≡◌, ℕ, ◌+◌, ◌-◌, ◌≤◌, length, Bool, true, false, Some, None, [], ◌∷◌, Result, Ok, Err, IsOk, refl, arith, sym, ap, ◌∙◌}
 use Rattle.std.proofs.lemmas.Bool.{false≢true}
@@ -48,7 +48,7 @@ module _ {V : Type 0} {e : Env V} where
   parameters_close true h k p f = list_closes (parameter_types e true) h k p refl (omega arith) (omega arith) f
   parameters_close false h k p f = list_closes (parameter_types e false) h k p refl (omega arith) (omega arith) f
 
-  -- What is returned.
+  -- The return type of a function.
   pub returns_type : {t : Machine V} {n : ℕ} (i : ℕ) → t.state.place ≡ Some i → is_byte e.symbol i (code "u") ≡ false → n ≡ t.looks + 1 → Fits continuation.Returns t.state.depth_left t.state.lifetimes
       → PerformsAt e continuation.Returns t (Ok continuation.«Type») (record t { state = record t.state { pending_text = Some fixed.Arrow }; looks = n })
   unfolding parse trace_at
@@ -58,7 +58,7 @@ module _ {V : Type 0} {e : Env V} where
 
 -- Binders.
 
--- a part of a point that begins with a binder
+-- a part of a continuation that begins with a binder
 abbrev pub binder_part : {V : Type 0} → Env V → ℕ → Items → State → ℕ → ℕ → StepPart
 binder_part e words p s weight high = part words (trace e.output e.symbol e.form (in_binder p) s.depth_left s.lifetimes s.place) weight high
 

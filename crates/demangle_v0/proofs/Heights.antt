@@ -1,4 +1,4 @@
--- There is room for each frame that is put on a stack.
+-- There is room for each frame that is pushed.
 use Rattle.std.specs.Prelude.{ℕ, ◌+◌, ◌-◌, ◌≤◌, length}
 use Rattle.std.proofs.Common.{List, [], ◌∷◌, ◌++◌, arith, length-append}
 use Rattle.demangle_v0.specs.Frames.{HasRoom, HasRoomAbove}
@@ -14,29 +14,29 @@ module _ {F : Type 0} (height : F → ℕ) where
   room_below n [] f h = tt
   room_below n (g ∷ stack) f h = (h.0, room_below (n - 1) stack f h.1)
 
-  -- the frame on top may stand there, in a stack that is not overfull
+  -- the top frame has room in a stack that is not too long
   room_top : (n : ℕ) (stack : List F) (f : F) → HasRoom height n (stack ++ f ∷ []) → length stack ≤ n → height f + length stack ≤ n
   unfolding HasRoom
   room_top n [] f h k = let l : height f ≤ n = h.0 in omega arith
   room_top n (g ∷ stack) f h k = let l = room_top (n - 1) stack f h.1 (omega arith) in omega arith
 
-  -- the first point, above no frame
+  -- the first continuation, above no frame
   pub stands_first : (n high : ℕ) → high ≤ n → HasRoomAbove height n high []
   unfolding HasRoom
   stands_first n high l = record { room = tt; above = omega arith }
 
-  -- the point was left for one that is no higher
+  -- the next continuation is no higher than the one before it
   pub has_room_on : (n high new : ℕ) (stack : List F) → HasRoomAbove height n high stack → new ≤ high → HasRoomAbove height n new stack
   has_room_on n high new stack s l = record { room = s.room; above = omega (arith, s.above, l) }
 
-  -- and a frame was put on the stack
+  -- a frame was pushed
   pub stands_push : (n high new : ℕ) (stack : List F) (f : F) → HasRoomAbove height n high stack → height f ≤ high → new + 1 ≤ high → HasRoomAbove height n new (stack ++ f ∷ [])
   stands_push n high new stack f s outer inner = record {
     room = room_push n stack f s.room (omega (arith, s.above, outer));
     above = omega (arith, s.above, inner, length-append {A = F} stack (f ∷ []));
   }
 
-  -- the unit was over: the frame on top goes on, at a point that is no higher
+  -- the production is complete, and the frame on top resumes at a continuation that is no higher
   pub stands_resumed : (n high new : ℕ) (stack : List F) (f : F) → HasRoomAbove height n high (stack ++ f ∷ []) → new ≤ height f → HasRoomAbove height n new stack
   stands_resumed n high new stack f s l =
       let low : length stack ≤ n = omega (arith, s.above, length-append {A = F} stack (f ∷ [])) in

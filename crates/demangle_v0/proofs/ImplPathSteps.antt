@@ -1,5 +1,5 @@
--- Parts that a printing parse reads and does not print. They are read above the current frames, and printing continues after
--- them.
+-- Parts that a printing parse reads and does not print. They are read above the current frames, and printing continues
+-- after them.
 use Rattle.std.specs.Prelude.{◌*◌, codes, take, IfSome, IfNone}
 use Rattle.std.proofs.Common.{◌≡◌, ℕ, ◌+◌, ◌≤◌, ◌<◌, Bool, true, false, Option, Some, None, Ok, List, [], ◌∷◌, length, refl, arith, sym, ap, ◌∙◌, subst}
 use Rattle.std.proofs.lemmas.Bool.{false≢true}
@@ -34,9 +34,9 @@ use Rattle.demangle_v0.proofs.WholePaths.{remaining_trace-empty_stack, over_plac
 use Rattle.demangle_v0_grammar.proofs.SkippedPaths.{allowances, skip_reads, skip_failed}
 use Rattle.demangle_v0.proofs.StepRules.{way_light}
 
--- Where it is read and printing goes on.
+-- The start of a part that is not printed, and the continuation after it.
 
--- no tag was looked at yet
+-- no tag was looked at so far
 pub skip_unread : (folds : Bool) (p : Continuation) (s : State) → is_skipped folds p ≡ true → first_looks p s ≤ 0
 skip_unread folds continuation.InherentImplPath s e = omega arith
 skip_unread folds continuation.TraitImplPath s e = omega arith
@@ -47,7 +47,7 @@ skip_unread folds p s e = absurd (false≢true e)
 resumes_less : (b : List ℕ) (form : Form) (out : Bool) {base : ℕ} {p q : Continuation} {s t : State} {stack now : List Frame} → ResumesAt base p s stack q t now → measure b form out q t now ≤ measure b form out p s stack
 resumes_less b form out {q = q} x = omega (arith, resume_light x, way_light q, ap (λ (h : Trace). allowed_in h.events) (resumes_trace b form out x))
 
--- What is heard of it.
+-- The trace of the part.
 
 abbrev pub read_own : List ℕ → Form → Continuation → ℕ → ℕ → ℕ → Place → Bool → Trace
 read_own b form p c left n i o = trace_at b form false (skipped_continuation p) false c left n i o
@@ -89,7 +89,7 @@ skip_owed p b form s stack k =
     (ap (λ (h : Trace). and_then h (trace_of_stack b form true stack)) (skip_at p b form s.in_value s.letter s.depth_left s.lifetimes s.place s.is_bracket_open k)
     ∙ allowing_then (allowances own_looks.events) (trace_of_state b form true (after_skip p) (state_at s own_looks.place)) (trace_of_stack b form true stack))
 
--- Where a reading stands.
+-- The invariant in such a part.
 
 own_valid : (folds : Bool) (p : Continuation) (s : State) (stack : List Frame) → is_skipped folds p ≡ true → Valid p s stack → Valid (skipped_continuation p) (impl_path_state s) stack
 own_valid folds continuation.TraitImplPath s stack k v = record { has_room = has_room_on frame_height most_frames (8 * s.depth_left + 2) (8 * s.depth_left + 1) stack v.has_room (omega arith); fits = v.fits; all_fit = v.all_fit; no_pending_text = v.no_pending_text }
@@ -112,7 +112,7 @@ weight_less folds continuation.FirstArgument k = omega arith
 weight_less folds continuation.FirstTraitArgument k = omega arith
 weight_less folds p k = absurd (false≢true k)
 
--- Printing goes on behind it.
+-- Printing continues after the part.
 
 module _ {b : List ℕ} {form : Form} {p q : Continuation} {s t : State} {below now : List Frame} {began looks : ℕ} (k : is_skipped form.fold_arguments p ≡ true) where
   pub skipped_valid : Skipped b form p s below began q t now looks → Valid p s below → Valid q t now
@@ -134,28 +134,28 @@ module _ {b : List ℕ} {form : Form} {p q : Continuation} {s t : State} {below 
         allowed_bits true (allows_looks ks ∷ []) (remaining_trace b form true q t now),
       )
 
--- The reading of it, in one stack or two.
+-- The part is read in one stack or in two.
 
--- where it is begun
+-- at its start
 own_stands : (folds : Bool) {p : Continuation} {s : State} {stack : List Frame} {r : Checkpoint} → is_skipped folds p ≡ true → r ≡ impl_path_checkpoint (record { continuation = p; state = s }) → Valid p s stack → Valid r.continuation r.state stack
 own_stands folds {p} {s} {stack} e k v = rw k (own_valid folds p s stack e v)
 
 pub own_reads : (b : List ℕ) (form : Form) (n : ℕ) (r : Checkpoint) {stack : List Frame} {inner : Checkpoint} → inner ≡ impl_path_checkpoint r → ReadsImplPath b form stack r n inner stack n
 own_reads b form n r {stack} k = rw k (reads_none {t = no_output_machine (impl_path_state r.state) stack n} (sym (append-nil stack)) tt)
 
--- where the stack is full
+-- if the stack is full
 pub skips_valid : {b : List ℕ} {form : Form} {r to : Checkpoint} {below now : List Frame} {began n looks : ℕ} {x : Unfinished} → is_skipped form.fold_arguments r.continuation ≡ true → Valid r.continuation r.state below → StopsInImplPath b form r below began x n to now looks
     → ValidUnfinished b form n (Ok (Some x)) to now looks
 skips_valid {below = below} {began = began} e v k = rw k.is_left (began, record { below = below; height = sym k.height; skips = e; valid = v; reads = k.reads }, k.valid, k.full)
 
 module _ {b : List ℕ} {form : Form} {below : List Frame} {began m : ℕ} {p q : Continuation} {t : State} {stack : List Frame} {u : Machine NoOutput} (o : Checkpoint) (r : Reads (no_output_env b form) below (skipped_continuation o.continuation) (no_output_machine (impl_path_state o.state) [] began) p (no_output_machine t stack m)) where
-  -- it came to its end
+  -- the part ended
   pub own_over : {to : Continuation} {new : State} → ReadDone (no_output_env b form) below p (no_output_machine t r.frames m) halt.Complete q u → to ≡ after_skip o.continuation → new ≡ state_at o.state u.state.place → Skipped b form o.continuation o.state below began to new u.stack u.looks
   own_over d e k =
       let x = ran_then r.ran d.reads.1 in
       record { at = e; place = u.state.place; ends = sym (ran_place x) ∙ over_place b form u.state; state = k; is_stack = d.reads.0; paid_looks = omega (arith, ran_looks x) }
 
-  -- it failed
+  -- the part has an error
   pub own_failed : {base : ℕ} {to : Continuation} {new : State} {now : List Frame} → ReadDone (no_output_env b form) below p (no_output_machine t r.frames m) halt.Failed q u → length below ≡ base → now ≡ take base u.stack → to ≡ after_skip o.continuation → new ≡ state_at o.state None
       → Skipped b form o.continuation o.state below began to new now u.looks
   own_failed d h w e k =

@@ -16,7 +16,7 @@ use Rattle.demangle_v0.specs.declared.parser.StepError.TheVariants.{Abort}
 use Rattle.demangle_v0.proofs.StepCases.{after_error, ends, enters, moves}
 use Rattle.demangle_v0.proofs.PrimitiveLooks.{optional_there}
 
--- The impl's own path, where it is not printed.
+-- The path of an impl, which is not printed.
 skip_trace : (b : List ℕ) (form : Form) (q : Bool) (v : Bool) (c left n : ℕ) (i : Place) (o : Bool)
     → trace_at b form false (impl_path_continuation q) v c left n i o ≡ and_then (trace_at b form false continuation.Path false c left n i o) (trace_of_frame b form false (frame_of (self_type_continuation q) v c left n))
 unfolding trace_at parse
@@ -26,7 +26,7 @@ skip_trace b form false v c left n None o = refl
 skip_trace b form false v c left n (Some i) o = refl
 
 module _ {V : Type 0} {e : Env V} where
-  -- Behind the tag of an impl.
+  -- After the tag of an impl.
   pub impl_unread : {t : Machine V} (q : Bool) → t.state.place ≡ None → t.state.pending_text ≡ None → PerformsRest e (impl_items q) 6 1 2 t (Err (Abort fixed.AfterError)) t
   unfolding parse
   impl_unread true at k = after_error k (rw at refl) (omega arith)
@@ -43,13 +43,13 @@ module _ {V : Type 0} {e : Env V} where
   impl_continues true i m j at r p k f = moves continuation.TraitImplPath (4 * (j - i + 1) ∷ []) (omega arith) (rw (at, k, sym r) refl) p (rw at (omega (arith, p.within, (optional_there (code "s") e.symbol i m j (sym r)).1))) (omega arith) (omega arith) f
   impl_continues false i m j at r p k f = moves continuation.InherentImplPath (4 * (j - i + 1) ∷ []) (omega arith) (rw (at, k, sym r) refl) p (rw at (omega (arith, p.within, (optional_there (code "s") e.symbol i m j (sym r)).1))) (omega arith) (omega arith) f
 
-  -- where it is not printed
+  -- if the output prints nothing
   pub skip_continues : {t : Machine V} {stack : List Frame} (q : Bool) → e.output.is_printed ≡ false → t.state.pending_text ≡ None → Fits continuation.Path t.state.depth_left t.state.lifetimes → stack ≡ t.stack ++ frame_at (self_type_continuation q) t.state ∷ []
       → PerformsAt e (impl_path_continuation q) t (Ok continuation.Path) (record t { state = record t.state { in_value = false }; stack = stack })
   skip_continues {t} true without_output k f r = let s = t.state in enters continuation.Path (frame_at continuation.TraitSelfType s) (rw (without_output, k) (skip_trace e.symbol e.form true s.in_value s.letter s.depth_left s.lifetimes s.place s.is_bracket_open)) r (omega arith) (omega arith) (omega arith) f f refl
   skip_continues {t} false without_output k f r = let s = t.state in enters continuation.Path (frame_at continuation.InherentSelfType s) (rw (without_output, k) (skip_trace e.symbol e.form false s.in_value s.letter s.depth_left s.lifetimes s.place s.is_bracket_open)) r (omega arith) (omega arith) (omega arith) f f refl
 
-  -- Behind the impl's own path.
+  -- After the path of an impl.
 
   pub self_continues : {t : Machine V} {stack : List Frame} → Fits continuation.Path t.state.depth_left t.state.lifetimes → stack ≡ t.stack ++ frame_at continuation.AsTrait t.state ∷ [] → PerformsAt e continuation.TraitSelfType t (Ok continuation.«Type») (record t { state = record t.state { pending_text = Some fixed.Less }; stack = stack })
   unfolding parse trace_at

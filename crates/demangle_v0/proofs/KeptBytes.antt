@@ -1,4 +1,4 @@
--- What was handed over is among what is kept.
+-- The bytes that the sink received are among those of the kept pieces.
 use Rattle.std.specs.Prelude.{ℕ, ◌≤◌}
 use Rattle.std.proofs.Common.{◌≡◌, ◌+◌, ◌-◌, List, ◌++◌, refl, ap, sym, ◌∙◌, arith}
 use Rattle.demangle_sink.specs.Cut.{size, prefix_within, kept}

@@ -1,4 +1,4 @@
--- The points of lifetimes.
+-- The continuations of lifetimes.
 use Rattle.std.specs.Prelude.{◌*◌, nat_le, codes}
 use Rattle.std.proofs.lemmas.Bool.{ne_eqb, false≢true}
 use Rattle.std.proofs.Common.{◌≡◌, ℕ, ◌+◌, ◌-◌, ◌≤◌, length, Bool, true, false, Some, None, List, [], ◌∷◌, Result, Ok, Err, refl, arith, sym, ap, ◌∙◌}
@@ -35,7 +35,7 @@ module _ {V : Type 0} (output : Ghosts V) (b : List ℕ) (form : Form) where
   abbrev named_trace : Bool → ℕ → ℕ → Place → Trace
   named_trace q left n i = trace output b form (lifetime_before (print_if q "mut " type_inside)) left n i
 
-  -- one that is not named, or not printed
+  -- a lifetime without a name, or one that is not printed
   named_nothing : (q : Bool) (left n i j : ℕ) → Some (0, j) ≡ integer_at b i → named_trace q left n (Some i) ≡ with_looks (4 * (j - i + 1) ∷ []) (trace output b form (print_if q "mut " type_inside) left n (Some j))
   unfolding parse
   named_nothing q left n i j e = rw (sym e) refl
@@ -49,7 +49,7 @@ module _ {V : Type 0} (output : Ghosts V) (b : List ℕ) (form : Form) where
   silent_so q left n j k true s = absurd (false≢true (sym s))
   silent_so q left n j k false s = refl
 
-  -- one that is printed
+  -- a lifetime that is printed
   spaced_so : (left n k j : ℕ) (p : Items) (out : Bool) → out ≡ true → (k ≡ 0 → ⊥)
       → of form.include_hash out (parse (lifetime k (print_str " " p)) (context_at b form.fold_arguments out left n) (Some j)) ≡ with_texts out (texts_of b form.include_hash (spaced_lifetime n k j).0) (of form.include_hash out (parse p (context_at b form.fold_arguments out left n) (spaced_lifetime n k j).1))
   spaced_so left n k j p false s z = absurd (false≢true s)
@@ -96,7 +96,7 @@ module _ {V : Type 0} {e : Env V} where
   short : {t : Machine V} {i k j n : ℕ} → Indexed e t i k j n → n ≤ t.looks + step_looks_bound e.symbol t.state.place
   short {t} {i} {k} {j} x = let p = placed (i + 1) e.symbol (integer_at e.symbol i) (integer_placed e.symbol i) k j (sym x.is) in rw x.at (omega (arith, x.within_budget.within, p.0, p.1))
 
-  -- one that is not named, or not printed
+  -- a lifetime without a name, or one that is not printed
   unsaid : {t : Machine V} {i k j n : ℕ} (q : Bool) → Indexed e t i k j n
       → named_trace e.output e.symbol e.form q t.state.depth_left t.state.lifetimes (Some i) ≡ with_looks (4 * (j - i + 1) ∷ []) (trace e.output e.symbol e.form (print_if q "mut " type_inside) t.state.depth_left t.state.lifetimes (Some j))
       → PerformsAt e (lifetime_continuation q) t (Ok (after_reference_lifetime q)) (record t { state = record t.state { place = Some j }; looks = n })
@@ -116,7 +116,7 @@ module _ {V : Type 0} {e : Env V} where
       let s = t.state in
       unsaid q x (lifetime_after e.output e.symbol e.form q s.depth_left s.lifetimes i j k x.is z ∙ ap (with_looks (4 * (j - i + 1) ∷ [])) (silent_so e.output e.symbol e.form q s.depth_left s.lifetimes j k e.output.is_printed m))
 
-  -- one that is printed
+  -- a lifetime that is printed
   emitted : {t : Machine V} {i k j n : ℕ} (q : Bool) (y : Token) (x : Place) → Indexed e t i k j n → (k ≡ 0 → ⊥) → e.output.is_printed ≡ true → (y, x) ≡ spaced_lifetime t.state.lifetimes k j
       → named_trace e.output e.symbol e.form q t.state.depth_left t.state.lifetimes t.state.place ≡ with_looks (4 * (j - i + 1) ∷ []) (with_texts e.output.is_printed (texts_of e.symbol e.form.include_hash y) (trace e.output e.symbol e.form (print_if q "mut " type_inside) t.state.depth_left t.state.lifetimes x))
   emitted {t} {i} {k} {j} q y x d z m g = let s = t.state in ap (λ (p : Place). named_trace e.output e.symbol e.form q s.depth_left s.lifetimes p) d.at ∙ spaced_trace e.output e.symbol e.form q s.depth_left s.lifetimes i j k y x d.is z m g

@@ -1,4 +1,4 @@
--- Steps on a whole stack.
+-- Steps over a stack of frames.
 use Rattle.std.proofs.Common.{inl, inr, ◌⊎◌, ◌≡◌, ℕ, ◌+◌, ◌≤◌, ◌<◌, Bool, true, false, Option, Some, None, List, [], ◌∷◌, ◌++◌, length, Result, Ok, Err, IsErr, refl, arith, sym, ap, ◌∙◌, subst, append_assoc, length-append}
 use Rattle.std.proofs.lemmas.Bool.{false≢true}
 use Rattle.std.proofs.lemmas.List.{append-nil}
@@ -43,7 +43,7 @@ unit_rest_failed b form out continuation.Constant v c left n o h = refl
 unit_rest_failed b form out continuation.AfterBackref v c left n o h = absurd (false≢true h)
 unit_rest_failed b form out p v c left n o h = failed (items_at p v c) (context_at b form.fold_arguments out left n)
 
--- A step, whose mark is handed over.
+-- A step whose pending text is printed.
 
 err_ok : (e : SinkRefused) → refused e ≡ Ok tt → ⊥
 err_ok e z = cc
@@ -52,7 +52,7 @@ some_none : (m : FixedText) → Some m ≡ None → ⊥
 some_none m z = cc
 
 module _ {V : Type 0} (e : Env V) where
-  -- what a step took, in turn
+  -- the actions of a step, in order
   abbrev bits_of : List ℕ → Option Token → List ℕ → List Action
   bits_of prefix None back = allows_looks prefix ∷ allows_looks back ∷ []
   bits_of prefix (Some s) back = allows_looks prefix ∷ puts (texts_of e.symbol e.form.include_hash s) ∷ allows_looks back ∷ []
@@ -77,7 +77,7 @@ module _ {V : Type 0} (e : Env V) where
   emitted_append u v w (allows_looks n ∷ xs) ys h k = emitted_append u v w xs ys h k
   emitted_append u v w (puts ts ∷ xs) ys h k = (h.0, h.1, emitted_append h.0 v w xs ys h.2 k)
 
--- what stands behind a step
+-- the trace after a step
 abbrev gone : {V : Type 0} → Env V → Option Frame → Continuation → State → Trace
 gone e f q s = then_frame e.symbol e.form e.output.is_printed f (trace_of_state e.symbol e.form e.output.is_printed q s)
 
@@ -130,11 +130,11 @@ module _ {V : Type 0} {e : Env V} where
         no_output = d.no_output;
       }
 
-  -- the step went on
+  -- the step continued
   pub step_continues : {t u : Machine V} {p q : Continuation} {x : V} {n : ℕ} → PerformsAt e p t (Ok q) u → FlushesText e.output u.state.pending_text u.output (Ok tt) x → n ≤ u.looks → StepDone e p t (Ok q) (record u { state = without_pending_text u.state; output = x; looks = n })
   step_continues {u = u} d k l = record { steps = (put_way u.state.pending_text refl d.comes d.comes.one k l, refl) }
 
-  -- the mark was refused
+  -- the output rejected the pending text
   text_refused : {t u : Machine V} {q : Continuation} {part : StepPart} {s : State} {x : V} {n : ℕ} {f : SinkRefused} (k : Option FixedText) → k ≡ u.state.pending_text → (d : Continued e part t q u) → (d.emitted ≡ None) ⊎ (u.state.pending_text ≡ None) → FlushesText e.output k u.output (Err f) x → n ≤ u.looks
       → Stopped e part t (record u { state = s; output = x; looks = n })
   text_refused {f = f} None c d o p l = absurd (err_ok f p.0)
@@ -157,12 +157,12 @@ module _ {V : Type 0} {e : Env V} where
   pub step_refused : {t u : Machine V} {p q : Continuation} {s : State} {x : V} {n : ℕ} {f : SinkRefused} → PerformsAt e p t (Ok q) u → FlushesText e.output u.state.pending_text u.output (Err f) x → n ≤ u.looks → StepDone e p t (Err f) (record u { state = s; output = x; looks = n })
   step_refused {t} {u} d k l = record { steps = (text_refused u.state.pending_text refl d.comes d.comes.one k l, kept_pushed t.stack u.stack d.comes.pushed d.comes.is_stack) }
 
-  -- which error is answered makes no difference
+  -- the result is the same for every error
   pub stepped_err : {t u : Machine V} {p : Continuation} {f : SinkRefused} {r : Result Continuation SinkRefused} → IsErr r → StepDone e p t (Err f) u → StepDone e p t r u
   stepped_err {r = Ok q} h d = absurd (false≢true h)
   stepped_err {r = Err f} h d = record { steps = d.steps }
 
-  -- the text of the fault was handed over
+  -- the output accepted the text of an error
   pub fault_continues : {t u : Machine V} {p : Continuation} {f : FixedText} {x : V} {n : ℕ} → PerformsAt e p t (Err (Abort f)) u → e.output.prints u.output (text f ∷ []) (Ok tt) x → n ≤ u.looks
       → StepDone e p t (Ok continuation.End) (record u { state = record u.state { place = None; is_bracket_open = false }; output = x; looks = n })
   unfolding trace_at then_frame
@@ -170,7 +170,7 @@ module _ {V : Type 0} {e : Env V} where
       let d = z.comes in
       record { steps = (rw d.is_stack (advanced_by continuation.End d.prefix d.primitive_count (Fixed f) d.reads (subst (λ (y : V). e.output.prints y (text f ∷ []) (Ok tt) x) (sym d.emits) put) d.no_pending_text (omega (arith, l, d.paid_looks)) (omega (arith, d.lighter)) (omega arith) tt), d.no_pending_text) }
 
-  -- or refused
+  -- the output rejected it
   pub fault_refused : {t u : Machine V} {p : Continuation} {m : FixedText} {s : State} {x : V} {n : ℕ} {f : SinkRefused} → PerformsAt e p t (Err (Abort m)) u → e.output.prints u.output (text m ∷ []) (Err f) x → n ≤ u.looks → StepDone e p t (Err f) (record u { state = s; output = x; looks = n })
   fault_refused {t} {u} {m = m} {x = x} {f = f} z put l = let d = z.comes in record {
     steps = (
@@ -190,11 +190,11 @@ module _ {V : Type 0} {e : Env V} where
     );
   }
 
-  -- or what the point put was refused
+  -- the output rejected the token of the continuation
   pub stop_refused : {t u : Machine V} {p : Continuation} {f : SinkRefused} → PerformsAt e p t (Err Sink) u → StepDone e p t (Err f) u
   stop_refused d = record { steps = d.comes }
 
--- What a stack still reads.
+-- The remaining trace of a stack.
 
 pub stack_rest_push : (b : List ℕ) (form : Form) (out : Bool) (stack : List Frame) (f : Frame) (i : Place) (o : Bool) → trace_of_stack b form out (stack ++ f ∷ []) i o ≡ and_then (trace_of_frame b form out f i o) (trace_of_stack b form out stack)
 unfolding trace_of_stack
@@ -230,7 +230,7 @@ place_bits out [] h = refl
 place_bits out (allows_looks ks ∷ bits) h = place_bits out bits h
 place_bits out (puts ts ∷ bits) h = place_bits out bits h
 
--- no more is left to do
+-- no action is left
 
 pub weights_push : (stack : List Frame) (f : Frame) → weights (stack ++ f ∷ []) ≡ weights stack + (weight_at f.continuation + 1)
 weights_push [] f = omega arith
@@ -259,7 +259,7 @@ stack_rest_failed b form out (f ∷ stack) i o h e =
     let r = trace_of_stack b form out stack i o in
     subst (λ (j : Place). (trace_of_frame b form out f j r.is_bracket_open).place ≡ None) (sym (stack_rest_failed b form out stack i o h.1 e)) (unit_rest_failed b form out f.continuation f.in_value f.letter f.depth_left f.number r.is_bracket_open h.0)
 
--- What holds wherever a reading stands.
+-- The invariant at every step.
 
 fit_push : (stack : List Frame) (f : Frame) → AllFit stack → Fits f.continuation f.depth_left f.number → AllFit (stack ++ f ∷ [])
 fit_push [] f h k = (k, tt)
@@ -299,12 +299,12 @@ pub resumes_length : {base : ℕ} {p q : Continuation} {s t : State} {stack now 
 resumes_length (stays other e k r) = rw r (omega arith)
 resumes_length {now = now} (pops f e l r d k) = rw r (omega (arith, length-append {A = Frame} now (f ∷ [])))
 
--- what stood on the stack looked at no tag yet
+-- the frames of the stack have not looked at a tag
 pub first_resumes : {base : ℕ} {p q : Continuation} {s t : State} {stack now : List Frame} → ResumesAt base p s stack q t now → first_looks p s ≤ first_looks q t
 first_resumes (stays other e k r) = rw (e, k) (omega arith)
 first_resumes (pops f e l r d k) = rw e (omega arith)
 
--- Where a unit is over and another goes on.
+-- A production is complete, and the frame on top resumes.
 
 pub resumes_trace : (b : List ℕ) (form : Form) (out : Bool) {base : ℕ} {p q : Continuation} {s t : State} {stack now : List Frame} → ResumesAt base p s stack q t now → remaining_trace b form out p s stack ≡ remaining_trace b form out q t now
 unfolding trace_at
@@ -319,7 +319,7 @@ pub resume_light : {base : ℕ} {p q : Continuation} {s t : State} {stack now : 
 resume_light {p = p} (stays other e k r) = rw (e, r) (omega (arith, light p other))
 resume_light {now = now} (pops f e l r d k) = rw (r, d) (omega (arith, weights_push now f))
 
--- Steps, one behind another.
+-- Several steps in sequence.
 
 module _ {V : Type 0} {e : Env V} where
   pub ran_none : {p : Continuation} {t : Machine V} → RanSteps e p t p t
@@ -333,11 +333,11 @@ module _ {V : Type 0} {e : Env V} where
     paid_looks = omega (arith, x.paid_looks, y.paid_looks, looks_append x.bits y.bits);
   }
 
-  -- where a unit is over and another goes on
+  -- a production is complete, and the frame on top resumes
   pub ran_resumes : {base : ℕ} {p q : Continuation} {t : Machine V} {s : State} {mid : List Frame} → ResumesAt base p t.state t.stack q s mid → RanSteps e p t q (record t { state = s; stack = mid })
   ran_resumes k = record { bits = []; emits = refl; reads = resumes_trace e.symbol e.form e.output.is_printed k; paid_looks = omega arith }
 
-  -- what a step does over more frames
+  -- the effect of a step above further frames
   step_trace : {p q : Continuation} {t u : Machine V} (z : StepDone e p t (Ok q) u) (above : List Frame)
       → trace_left e p (record t { stack = above }) ≡ with_actions e.output.is_printed (bits_of e z.steps.0.prefix z.steps.0.emitted z.steps.0.back) (trace_left e q (record u { stack = pushed_on above z.steps.0.pushed }))
   step_trace {p} {q} {t} {u} z above =
@@ -361,22 +361,22 @@ module _ {V : Type 0} {e : Env V} where
   ran_stepped : {p q : Continuation} {t u : Machine V} → StepDone e p t (Ok q) u → RanSteps e p t q u
   ran_stepped {p} {q} {t} {u} z = subst (λ (ys : List Frame). RanSteps e p t q (record u { stack = ys })) (sym z.steps.0.is_stack) (ran_step z t.stack)
 
-  -- one turn
+  -- one iteration
   pub ran_machine : {base : ℕ} {o p q r : Continuation} {first t w : Machine V} {s : State} {mid : List Frame} → RanSteps e o first p t → ResumesAt base p t.state t.stack q s mid → StepDone e q (record t { state = s; stack = mid }) (Ok r) w → RanSteps e o first r w
   ran_machine x k z = ran_then x (ran_then (ran_resumes k) (ran_stepped z))
 
-  -- it was refused
+  -- the output rejected a text
   pub ran_broke : {base : ℕ} {o p q : Continuation} {first t w : Machine V} {s : State} {mid : List Frame} {f : SinkRefused} → RanSteps e o first p t → ResumesAt base p t.state t.stack q s mid → StepDone e q (record t { state = s; stack = mid }) (Err f) w → StoppedAfter e o first w.output w.looks
   ran_broke {q = q} {t = t} {w = w} {s = s} {mid = mid} x k z = record { at = q; mid = record t { state = s; stack = mid }; stack = mid; end = w; ran = ran_then x (ran_resumes k); halts = z.steps.0; same_output = refl; same_looks = refl }
 
-  -- it goes on to the same place, and makes no more looks than are allowed
+  -- the steps keep the place at which the trace ends, and make no more looks than the trace allows
   pub ran_place : {p q : Continuation} {t u : Machine V} → RanSteps e p t q u → (trace_left e q u).place ≡ (trace_left e p t).place
   ran_place {q = q} {u = u} x = sym (place_bits e.output.is_printed x.bits (trace_left e q u)) ∙ ap (λ (h : Trace). h.place) (sym x.reads)
 
   pub ran_looks : {p q : Continuation} {t u : Machine V} → RanSteps e p t q u → u.looks + allowed_in (trace_left e q u).events ≤ t.looks + allowed_in (trace_left e p t).events
   ran_looks {q = q} {u = u} x = omega (arith, x.paid_looks, ap (λ (h : Trace). allowed_in h.events) x.reads, allowed_bits e.output.is_printed x.bits (trace_left e q u))
 
-  -- what stands behind a refused stretch
+  -- the trace after a rejected token
   abbrev pub after_broke : {p : Continuation} {t : Machine V} {v : V} {n : ℕ} → StoppedAfter e p t v n → Trace
   after_broke d = and_then d.halts.rest (trace_of_stack e.symbol e.form e.output.is_printed d.stack)
 
@@ -399,7 +399,7 @@ module _ {V : Type 0} {e : Env V} where
   pub broke_enough : {p : Continuation} {t : Machine V} {v : V} {n : ℕ} (d : StoppedAfter e p t v n) → n ≤ t.looks + (action_looks (prefix_of d) + 2)
   broke_enough d = omega (arith, d.same_looks, d.halts.paid_looks, d.ran.paid_looks, looks_append d.ran.bits (allows_looks d.halts.prefix ∷ []))
 
-  -- a silent reading failed
+  -- a parse without output failed
   pub broke_fails : {p : Continuation} {t : Machine V} {v : V} {n : ℕ} → e.output.is_printed ≡ false → (d : StoppedAfter e p t v n) → AllInner d.stack → ((trace_left e p t).place ≡ None) × (n ≤ t.looks + allowed_in (trace_left e p t).events)
   broke_fails without_output d i =
       let out = e.output.is_printed in
@@ -420,7 +420,7 @@ module _ {V : Type 0} {e : Env V} where
   pub valid_steps : {p q : Continuation} {t u : Machine V} → Valid p t.state t.stack → StepDone e p t (Ok q) u → Valid q u.state u.stack
   valid_steps {p} {q} {t} {u} l z = let d = z.steps.0 in subst (Valid q u.state) (sym d.is_stack) (valid_push p q t.state u.state t.stack d.pushed l d.outer_height d.inner_height d.outer_fits d.inner_fits z.steps.1)
 
-  -- one turn of a reading is less work
+  -- one iteration of a parse lowers the measure
   pub machine_less : {base : ℕ} {p q r : Continuation} {s : State} {stack : List Frame} {t u : Machine V} → ResumesAt base p s stack q t.state t.stack → StepDone e q t (Ok r) u
       → measure e.symbol e.form e.output.is_printed r u.state u.stack < measure e.symbol e.form e.output.is_printed p s stack
   machine_less {r = r} {t = t} {u = u} x z =
@@ -460,7 +460,7 @@ module _ {V : Type 0} {e : Env V} where
         ran = ran_then x.ran (ran_resumes over);
       }
 
-  -- one turn
+  -- one iteration
   pub reads_machine : {base : ℕ} {below : List Frame} {o p q r : Continuation} {first t w : Machine V} {s : State} {mid : List Frame} → e.output.is_printed ≡ false → Reads e below o first p t → length below ≡ base → ResumesAt base p t.state t.stack q s mid
       → StepDone e q (record t { state = s; stack = mid }) (Ok r) w → Reads e below o first r w
   reads_machine {below = below} without_output x l k z =
@@ -473,7 +473,7 @@ module _ {V : Type 0} {e : Env V} where
         ran = ran_then y.ran (ran_step z y.frames);
       }
 
-  -- it failed
+  -- the parse failed
   pub reads_fail : {base : ℕ} {below : List Frame} {o p q end : Continuation} {first t w : Machine V} {s u : State} {mid : List Frame} {f : SinkRefused} → Reads e below o first p t → length below ≡ base → ResumesAt base p t.state t.stack q s mid
       → StepDone e q (record t { state = s; stack = mid }) (Err f) w → ReadDone e below o first halt.Failed end (record w { state = u })
   reads_fail {below = below} {q = q} {t = t} {w = w} {s = s} {mid = mid} x l k z = let y = reads_resume x l k in let d = z.steps in record {

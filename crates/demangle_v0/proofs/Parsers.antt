@@ -1,4 +1,4 @@
--- What points do to a parser.
+-- The effect of continuations on a parser.
 use Rattle.std.specs.Prelude.{◌&&◌}
 use Rattle.std.proofs.lemmas.Bool.{false≢true}
 use Rattle.std.proofs.Common.{◌≡◌, ℕ, Bool, true, false, Option, Some, None, List, Result, Ok, Err, refl}
@@ -18,7 +18,7 @@ use Rattle.demangle_v0.specs.declared.parser.frames.Frame.{Frame}
 use Rattle.demangle_v0.specs.declared.parser.machine.Parser.{Parser}
 use Rattle.demangle_v0.specs.declared.printer.Unfinished.{Unfinished}
 
--- What hands nothing over does the same with any output.
+-- A continuation that emits nothing has the same effect for every output.
 
 none_emitted : (p : Bool) (b : List ℕ) (h : Form) (o : Option Token) → Emits (env (unused_output p) b h) o tt tt → o ≡ None
 none_emitted p b h None k = refl
@@ -73,7 +73,7 @@ advanced output v p {m} {k} {r} d = let x = d output.is_printed in record {
   same = x.same;
 }
 
--- where the output does not print
+-- if the output does not print
 pub advanced_without_output : {N : ℕ} {V : Type 0} (output : Ghosts V) (v : V) (p : Continuation) {m k : Parser N} {r : Result Continuation StepError} → (output.is_printed ≡ true → false ≡ true) → AdvancedWithoutOutput p m r k → Performed output p m v r k v
 advanced_without_output output v p {m} {k} {r} q x = go output.is_printed refl
   where
@@ -101,10 +101,10 @@ advanced_rest output v items words weight above {m} {k} {r} d = let x = d output
   same = x.same;
 }
 
--- A step of a parser that was another before, whose input is the same.
+-- A step of a parser that was at another step before, with the same source.
 pub stepped_as : {N : ℕ} {V : Type 0} (output : Ghosts V) (m k : Parser N) {p : Continuation} {t u : Machine V} {r : Result Continuation SinkRefused} → Same m k → StepDone (env_of output k) p t r u → StepDone (env_of output m) p t r u
 stepped_as output m k (e, h, f) d = rw (← e, ← h, ← f) d
 
--- What is left to print, of a parser whose input is the same.
+-- The rest that is left to print, for a parser of the same source.
 pub left_as : {N : ℕ} (n : ℕ) (m k : Parser N) (r : Result (Option Unfinished) SinkRefused) → Same m k → ValidUnfinished m.source.symbol.now (source_form m.source) n r (checkpoint_of k) k.stack k.looks → UnfinishedIsValid n r k
 left_as n m k r (e, h, f) d = rw (e, h, f) d

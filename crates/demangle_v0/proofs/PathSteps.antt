@@ -1,4 +1,4 @@
--- The points of paths.
+-- The continuations of paths.
 use Prim.Native.Char.{code}
 use Rattle.std.specs.Prelude.{◌*◌}
 use Rattle.std.proofs.Common.{◌≡◌, ℕ, zero, suc, sub-one, ◌+◌, ◌-◌, ◌<◌, ◌≤◌, length, Bool, false, Option, Some, None, List, [], ◌∷◌, ◌++◌, Result, Ok, Err, refl, arith, sym, ap, ◌∙◌}
@@ -31,7 +31,7 @@ use Rattle.demangle_v0.proofs.StepCases.{ended, text_step, ends, tells, halts, f
 use Rattle.demangle_symbol.proofs.Counts.{placed, byte_placed}
 
 module _ {V : Type 0} (output : Ghosts V) (b : List ℕ) (form : Form) where
-  -- Paths of names.
+  -- Crates and nested paths.
 
   abbrev path_trace : Bool → ℕ → ℕ → Place → ℕ → Trace
   path_trace v left n i c = with_closed_bracket (of form.include_hash output.is_printed (parse (path v c) (context_at b form.fold_arguments output.is_printed left n) i))
@@ -74,7 +74,7 @@ opened e s i at d = rw at (path_opens e.output e.symbol e.form s.in_value s.lett
 pub crate_trace : {V : Type 0} (e : Env V) (s : State) (i : ℕ) → s.place ≡ Some i → path_trace e.output e.symbol e.form s.in_value s.depth_left s.lifetimes s.place (code "C") ≡ group_then e.output e.symbol e.form (crate_group e.symbol i) ended
 crate_trace e s i at = rw at (crate_so e.output e.symbol e.form s.in_value s.depth_left s.lifetimes i)
 
--- A name behind its path.
+-- The name after a nested path.
 pub nested_trace : {V : Type 0} (e : Env V) (s : State) (i : ℕ) → s.place ≡ Some i → trace_of_state e.symbol e.form e.output.is_printed continuation.NestedName s ≡ group_then e.output e.symbol e.form (nested_group e.symbol s.letter i) ended
 nested_trace e s i at = rw at (nested_so e.output e.symbol e.form s.in_value s.letter s.depth_left s.lifetimes i s.is_bracket_open)
 
@@ -119,7 +119,7 @@ module _ {V : Type 0} {e : Env V} where
       let p = placed (i + 1) e.symbol (byte_at e.symbol i) (byte_placed e.symbol i) c j (sym q) in
       following {t = t} (4 * (j - i + 1) ∷ []) (omega arith) (opened e t.state i at d ∙ rw (sym q) refl) (record { grows = omega arith; within = omega arith }) (rw at (omega (arith, p.0, p.1, l))) (omega arith) (omega (arith, d)) z
 
-  -- the path that it lies in has failed
+  -- the path before the name has failed
   pub name_unread : {t : Machine V} {v : V} {n : ℕ} → t.state.place ≡ None → LooksWithin t.looks [] n → e.output.prints t.output (texts_of e.symbol e.form.include_hash NameAfterError) (Ok tt) v → e.output.ready v → t.state.pending_text ≡ None
       → PerformsAt e continuation.NestedName t (Ok continuation.End) (record t { state = record t.state { is_bracket_open = false }; output = v; looks = n })
   unfolding parse trace_at

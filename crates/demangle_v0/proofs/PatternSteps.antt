@@ -1,4 +1,4 @@
--- The points of patterns.
+-- The continuations of patterns.
 use Rattle.std.specs.Prelude.{◌*◌, ◌<◌}
 use Rattle.std.proofs.Common.{◌≡◌, ℕ, ◌+◌, ◌-◌, length, true, false, Option, Some, None, List, [], ◌∷◌, ◌++◌, Ok, Err, refl, arith, sym, ap, ◌∙◌}
 use Prim.Native.Char.{code}
@@ -31,7 +31,7 @@ use Rattle.demangle_v0_grammar.proofs.UnitTraces.{raise_deep, raise_on}
 abbrev further : Items
 further = more " | " (child a_pattern false done) (if_ok done invalid)
 
--- behind its tag
+-- after its tag
 pattern_so : {V : Type 0} (e : Env V) (s : State) (i c j : ℕ) (p : Option PatternKind) → Some (c, j) ≡ byte_at e.symbol i → p ≡ found c pattern_kinds
     → trace_at e.symbol e.form e.output.is_printed continuation.Pattern s.in_value s.letter s.depth_left s.lifetimes (Some i) s.is_bracket_open ≡ with_looks (4 * (j - i + 1) ∷ []) (trace e.output e.symbol e.form (some_or invalid p pattern_kind_of) s.depth_left s.lifetimes (Some j))
 unfolding trace_at

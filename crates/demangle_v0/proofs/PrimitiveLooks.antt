@@ -1,4 +1,4 @@
--- How many looks the words of one step are.
+-- The looks of the primitives that one step reads.
 use Rattle.std.specs.Prelude.{◌*◌, ◌==◌, nat_le, if◌then◌else◌, option_map}
 use Rattle.std.proofs.Common.{◌≡◌, ℕ, ◌+◌, ◌-◌, ◌≤◌, length, Bool, true, false, Option, Some, None, List, [], refl, ap, arith}
 use Prim.Native.Char.{code}
@@ -25,7 +25,8 @@ use Rattle.demangle_v0_tokens.specs.declared.token.Abi.TheVariants as abi
 use Rattle.demangle_v0_tokens.specs.declared.fixed_texts.FixedText.TheVariants as fixed
 use Rattle.demangle_v0_grammar.proofs.SpelledIsParsed.{there_placed}
 
--- from i on, a group makes at most four looks for each byte and so many more, and reads so many words
+-- from place i on, the token spec makes at most four looks for each byte and `looks` more, and it reads at most `words`
+-- primitives
 record Brief (b : List ℕ) (i looks words : ℕ) (g : TokenSpec) : Type 0 where
   short : total g.costs ≤ 4 * (length b - i) + looks
   primitive_count : length g.costs ≤ words
@@ -40,7 +41,7 @@ mapped : {A B : Type 0} (low : ℕ) (s : List ℕ) (r : Read A) (g : A × ℕ �
 mapped low s None g h = tt
 mapped low s (Some r) g h = h
 
--- behind a word, and behind a look at a byte
+-- after a primitive, and after a look at a byte
 one : {A : Type 0} {b : List ℕ} {k m : ℕ} (i : ℕ) (r : Read A) (f : A → ℕ → TokenSpec) → Placed (i + 1) b r → ((v : A) (j : ℕ) → Brief b j k m (f v j)) → Brief b i (k + 4) (m + 1) (after_primitive (length b) i r f)
 one i None f p h = record { short = omega arith; primitive_count = omega arith }
 one i (Some r) f p h = let g = h r.0 r.1 in record { short = omega (arith, p.0, p.1, g.short); primitive_count = omega (arith, g.primitive_count) }
@@ -59,7 +60,7 @@ abbrev place_of : ℕ → Read ℕ → ℕ
 place_of i None = i
 place_of i (Some r) = r.1
 
--- an optional word ends within the bytes, or where it begins
+-- an optional primitive ends within the bytes, or at the place where it would begin
 pub optional_there : (t : ℕ) (b : List ℕ) (i : ℕ) → (v j : ℕ) → optional_at t b i ≡ Some (v, j) → (i ≤ j) × (4 * (j - i) + 4 * (length b - j) ≤ 4 * (length b - i))
 unfolding optional_at
 optional_there t b i v j e = go (is_byte b i t) refl

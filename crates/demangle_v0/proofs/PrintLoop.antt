@@ -1,4 +1,4 @@
--- Readings that print.
+-- Parses that print.
 use Rattle.std.specs.Prelude.{◌*◌}
 use Rattle.std.proofs.Common.{◌≡◌, ℕ, ◌+◌, ◌-◌, ◌≤◌, true, Option, Some, None, List, [], ◌∷◌, ◌++◌, length, Result, Ok, Err, IsErr, refl, arith, sym, ap, ◌∙◌, subst, append_assoc}
 use Rattle.std.proofs.lemmas.Bool.{false≢true}
@@ -39,7 +39,7 @@ use Rattle.demangle_v0_grammar.proofs.SkippedPaths.{allowances, total_allowances
 use Rattle.demangle_v0.specs.Skips.{is_skipped}
 
 module _ {V : Type 0} {e : Env V} where
-  -- it was refused
+  -- the output rejected a text
   pub ran_fail : {p : Continuation} {t : Machine V} {result : Result (Option Unfinished) SinkRefused} {r : Checkpoint} {now : List Frame} {w : V} {n : ℕ} → IsErr result → StoppedAfter e p t w n → PrintDone e p t result r now w n
   ran_fail {result = Ok x} h d = absurd (false≢true h)
   ran_fail {result = Err f} h d = record { ran = d }
@@ -51,7 +51,7 @@ module _ {V : Type 0} {e : Env V} where
     ran = record { began = began; skips = record { below = below; height = sym k.height; skips = i; valid = v; reads = k.reads }; ran = ran };
   })
 
-  -- A reading that goes on where another stopped.
+  -- A parse that continues where another one stopped.
 
   pub ran_joins : {p q : Continuation} {t u : Machine V} (result : Result (Option Unfinished) SinkRefused) {r : Checkpoint} {now : List Frame} {w : V} {n : ℕ} → RanSteps e p t q u → PrintDone e q u result r now w n → PrintDone e p t result r now w n
   ran_joins (Ok None) a c = record { ran = ran_then a c.ran }
@@ -74,7 +74,7 @@ module _ {V : Type 0} {e : Env V} where
         };
       })
 
-  -- How whole readings end.
+  -- The ends of complete parses.
 
   -- nothing is left
   pub ended_all : {p : Continuation} {t : Machine V} {answer : Option Unfinished} {r : Checkpoint} {now : List Frame} {w : V} {n : ℕ} → answer ≡ None → PrintDone e p t (Ok answer) r now w n → Ended e p t (Ok tt) w n
@@ -84,7 +84,7 @@ module _ {V : Type 0} {e : Env V} where
       some_none : Some y ≡ None → ⊥
       some_none z = cc
 
-  -- it was refused
+  -- the output rejected a text
   pub ended_err : {p : Continuation} {t : Machine V} {f : SinkRefused} {result : Result (Unit {0}) SinkRefused} {r : Checkpoint} {now : List Frame} {w : V} {n : ℕ} → IsErr result → PrintDone e p t (Err f) r now w n → Ended e p t result w n
   ended_err {result = Ok y} h c = absurd (false≢true h)
   ended_err {result = Err g} h c = record { ended = c.ran }
@@ -100,7 +100,7 @@ finished_valid b form i j primitive_count now (left.ImplPath base r) (left.ImplP
     let z = v.1 in
     rw (k.0, k.1) (v.0, record { below = z.below; height = z.height; skips = z.skips; valid = z.valid; reads = k.4 z.below v.0 z.reads z.height }, k.2, k.3)
 
--- What was printed.
+-- The texts that were printed.
 
 shown_allowed : (ks : List ℕ) (xs : List Event) → texts_in (looks_then ks xs) ≡ texts_in xs
 shown_allowed [] xs = refl
@@ -127,7 +127,7 @@ bits_paid r a (puts ts ∷ bits) h p =
     let q = pays_texts r a 0 ts _ (subst (λ xs. IsWithinBudget r a xs 0) (weighed_said ts (with_actions true bits h).events) p) in
     more r a (size ts) (size (action_texts bits)) _ _ (size-append ts (action_texts bits)) (bits_paid r (a + r * size ts) bits h q)
 
--- with two looks that came too early
+-- with two looks that are not covered yet
 within : (n w room m made : ℕ) → w ≤ room → made ≤ m + (looks_before n + looks_a_byte n * w + 2) → made ≤ m + 100000 * (room + 1) * (n + 1)
 within n w room m made l h = let e : looks_a_byte n * w ≤ looks_a_byte n * room = mul-le-mul_left (looks_a_byte n) l in omega (arith, h, e)
 
@@ -142,7 +142,7 @@ module _ {S : Type 0} (sink : Sinks S) (b : List ℕ) (form : Form) where
     paid_looks = omega (arith, z.paid_looks, total_allowances (impl_path_trace b form p t.state).events);
   })
 
-  -- behind it, if there is one
+  -- after the part that is not printed, if there is one
   pub passed_ran : {p : Continuation} {t : Machine (SizeLimitedFmtAdapter S)} {primitive_count now : List Frame} {w : SizeLimitedFmtAdapter S} (x : Unfinished) {r to : Checkpoint} {m n : ℕ} → PrintDone (printing sink b form) p t (Ok (Some x)) r primitive_count w m → Passed b form x r primitive_count m to now n
       → RanSteps (printing sink b form) p t to.continuation (machine to.state now w n)
   passed_ran left.Printing a k = rw (k.0, k.1) (record { bits = a.ran.bits; emits = a.ran.emits; reads = a.ran.reads; paid_looks = omega (arith, k.2, a.ran.paid_looks) })
@@ -183,11 +183,11 @@ module _ {S : Type 0} (sink : Sinks S) (b : List ℕ) (form : Form) where
       let all : (fronts ++ texts) ++ texts_in (after_broke d).events ≡ path_texts b form = append_assoc fronts texts (texts_in (after_broke d).events) ∙ prefix_shown d in
       rw (sym all, sym d.same_output) (prints_stop sink v d.end.output (fronts ++ texts) (texts_in (after_broke d).events) (Err d.halts.rejection) (Err f) both refl refl)
 
-  -- all was printed, and the place where that ended is known
+  -- all was printed, and the place at the end is known
   pub prints_to : {v w : SizeLimitedFmtAdapter S} {m n place : ℕ} → Ready sink v → EndedAt (printing sink b form) continuation.Path (begun v m) place w n → Prints sink v (path_texts b form) (Ok tt) w
   prints_to ready z = prints_so (Ok tt) ready (record { ended = (z.state, z.ran) })
 
-  -- The looks of a run are paid for by what it handed over.
+  -- The printed bytes pay for the looks of a parse.
 
   whole_paid : IsWithinBudget (looks_a_byte (length b)) (looks_before (length b)) (weighed (remaining_trace b form true continuation.Path (first_state 0) []).events) 0
   unfolding trace_at read_at

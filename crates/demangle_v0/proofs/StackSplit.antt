@@ -1,4 +1,4 @@
--- A stack of frames above others that stand there.
+-- A stack of frames above those that were on it before.
 use Rattle.std.specs.Prelude.{◌≤◌, length}
 use Rattle.std.proofs.Common.{◌≡◌, List, [], ◌∷◌, ◌++◌, refl, sym, ap, ◌∙◌, arith}
 
@@ -6,7 +6,7 @@ module _ {F : Type 0} where
   one_more : (f g : F) (xs ys : List F) → f ∷ xs ≡ g ∷ ys → (f ≡ g) × (xs ≡ ys)
   one_more f g xs ys e = (cc, cc)
 
-  -- the frame on top of more than those is not one of them
+  -- the top frame of a longer stack is not one of those below
   pub above_pop : (below above stack : List F) (f : F) → stack ++ f ∷ [] ≡ below ++ above → length below ≤ length stack → (rest : List F) × (above ≡ rest ++ f ∷ []) × (stack ≡ below ++ rest)
   above_pop [] above stack f e l = (stack, sym e, refl)
   above_pop (g ∷ below) above [] f e l = absurd (omega (arith, l))

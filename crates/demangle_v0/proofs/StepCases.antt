@@ -1,4 +1,4 @@
--- What points do, from one turn to the next.
+-- The cases of a step, from one iteration to the next.
 use Rattle.std.specs.Prelude.{◌*◌}
 use Rattle.std.proofs.lemmas.Bool.{false≢true}
 use Rattle.std.proofs.lemmas.List.{append-nil, length-append}
@@ -28,11 +28,11 @@ use Rattle.demangle_v0_tokens.specs.declared.token.TokenKind.{TokenKind}
 use Rattle.demangle_v0_tokens.specs.declared.read.TokenOutcome.TheVariants as reads
 use Rattle.demangle_v0.specs.declared.parser.Continuation.TheVariants as continuation
 
--- the unit is over
+-- the production is complete
 abbrev pub ended : Place → Trace
 ended j = empty_trace j false
 
--- a point is so light and so low, and its lifetimes fit where those of a type do
+-- a bound on the weight and the height of a continuation; its lifetimes fit if those of a type do
 pub record Within (p : Continuation) (weight above : ℕ) : Type 0 where
   pub light : weight_left p ≤ weight
   pub low : (left : ℕ) → height_at p left ≤ 8 * left + above
@@ -59,7 +59,7 @@ no_fault m k = cc
 pub paid_none : {n : ℕ} → LooksWithin n [] n
 paid_none = record { grows = omega arith; within = omega arith }
 
--- what comes behind some looks
+-- the rest of a step, after some looks
 comes_after : {V : Type 0} (e : Env V) (t u : Machine V) (h k : Trace) (words words' weight high weight' high' : ℕ) (s : State) (n : ℕ) (r : Result Continuation StepError) (ks : List ℕ) → length ks + words' ≤ words → h ≡ with_looks ks k → LooksWithin t.looks ks n → weight' ≤ weight + 100 * total ks → high' ≤ high
     → StepResult e (part words' k weight' high') (record t { state = s; looks = n }) r u → StepResult e (part words h weight high) t r u
 comes_after e t u h k words words' weight high weight' high' s n (Ok q) ks c o p w x d = record {
@@ -108,7 +108,7 @@ comes_after e t u h k words words' weight high weight' high' s n (Err Sink) ks c
 )
 
 module _ {V : Type 0} {e : Env V} where
-  -- The point is left for another, by these looks before the mark and behind it, and with this frame.
+  -- The step continues at `to`. It makes these looks before and after the pending text, and may push this frame.
   pub text_step : {t : Machine V} {h : Trace} {words weight high : ℕ} (to : Continuation) (prefix back : List ℕ) → length prefix + length back ≤ words → (pushed : Option Frame) {s : State} {stack : List Frame} {n : ℕ}
       → h ≡ with_looks prefix (with_texts e.output.is_printed (pending_texts s.pending_text) (with_looks back (then_frame e.symbol e.form e.output.is_printed pushed (trace_of_state e.symbol e.form e.output.is_printed to s))))
       → stack ≡ pushed_on t.stack pushed → LooksWithin t.looks (prefix ++ back) n → total back ≤ 2 → n ≤ t.looks + step_looks_bound e.symbol t.state.place
@@ -141,14 +141,14 @@ module _ {V : Type 0} {e : Env V} where
     if_ok = λ k _ _. k;
   }
 
-  -- with no frame
+  -- without a frame
   pub moves : {t : Machine V} {h : Trace} {words weight high n : ℕ} (to : Continuation) (ks : List ℕ) → length ks ≤ words → {s : State} → h ≡ with_looks ks (with_texts e.output.is_printed (pending_texts s.pending_text) (trace_of_state e.symbol e.form e.output.is_printed to s))
       → LooksWithin t.looks ks n → n ≤ t.looks + step_looks_bound e.symbol t.state.place → weight_left to + 1 ≤ weight + 100 * total ks → height_at to s.depth_left ≤ high → Fits to s.depth_left s.lifetimes
       → Performs e t (part words h weight high) (Ok to) (record t { state = s; looks = n })
   unfolding then_frame
   moves to ks c r p short w x f = text_step to ks [] (omega (arith, c)) None r refl (rw append-nil p) (omega arith) short (omega (arith, w)) (omega arith) (omega (arith, x)) tt f (λ _. tt)
 
-  -- by no looks
+  -- without looks
   pub enters : {t : Machine V} {h : Trace} {words weight high : ℕ} (to : Continuation) (f : Frame) {s : State} {stack : List Frame}
       → h ≡ with_texts e.output.is_printed (pending_texts s.pending_text) (and_then (trace_of_state e.symbol e.form e.output.is_printed to s) (trace_of_frame e.symbol e.form e.output.is_printed f)) → stack ≡ t.stack ++ f ∷ []
       → weight_left to + weight_at f.continuation + 2 ≤ weight → height_at f.continuation f.depth_left ≤ high → height_at to s.depth_left + 1 ≤ high → Fits f.continuation f.depth_left f.number → Fits to s.depth_left s.lifetimes → is_inner f.continuation ≡ true
@@ -156,18 +156,18 @@ module _ {V : Type 0} {e : Env V} where
   unfolding then_frame
   enters to f r q w x y z g i = text_step to [] [] (omega arith) (Some f) r q paid_none (omega arith) (omega arith) (omega (arith, w)) (omega (arith, x)) (omega (arith, y)) z g (λ _. i)
 
-  -- by no looks and with no frame
+  -- without looks and without a frame
   pub marks : {t : Machine V} {h : Trace} {words weight high : ℕ} (to : Continuation) {s : State} → h ≡ with_texts e.output.is_printed (pending_texts s.pending_text) (trace_of_state e.symbol e.form e.output.is_printed to s)
       → weight_left to + 1 ≤ weight → height_at to s.depth_left ≤ high → Fits to s.depth_left s.lifetimes → Performs e t (part words h weight high) (Ok to) (record t { state = s })
   marks to r w x f = moves to [] (omega arith) r paid_none (omega arith) (omega (arith, w)) x f
 
-  -- a child, behind a mark
+  -- a nested production, after a pending text
   pub texts_child : {t : Machine V} {h : Trace} {words weight high : ℕ} (to : Continuation) (k : Kind) (v : Bool) {s : State} → h ≡ with_texts e.output.is_printed (pending_texts s.pending_text) (trace e.output e.symbol e.form (child k v done) s.depth_left s.lifetimes s.place)
       → with_closed_bracket (of e.form.include_hash e.output.is_printed (unit_outcome (context_at e.symbol e.form.fold_arguments e.output.is_printed s.depth_left s.lifetimes) k v s.place)) ≡ trace_of_state e.symbol e.form e.output.is_printed to s
       → weight_left to + 1 ≤ weight → height_at to s.depth_left ≤ high → Fits to s.depth_left s.lifetimes → Performs e t (part words h weight high) (Ok to) (record t { state = s })
   texts_child to k v {s} q r w x f = marks to (q ∙ ap (with_texts e.output.is_printed (pending_texts s.pending_text)) (child_last e.output e.symbol e.form k v s.depth_left s.lifetimes s.place ∙ r)) w x f
 
-  -- The unit ends with a fault.
+  -- The production ends with an error.
   pub ends : {t : Machine V} {h : Trace} {words weight high : ℕ} (m : FixedText) (prefix : List ℕ) → length prefix ≤ words → {s : State} {n : ℕ} → s.pending_text ≡ None
       → h ≡ with_looks prefix (with_texts e.output.is_printed (text m ∷ []) (empty_trace None false)) → LooksWithin t.looks prefix n → n ≤ t.looks + step_looks_bound e.symbol t.state.place → 1 ≤ weight
       → Performs e t (part words h weight high) (Err (Abort m)) (record t { state = s; looks = n })
@@ -179,11 +179,11 @@ module _ {V : Type 0} {e : Env V} where
     if_ok = λ y _ _. y;
   }
 
-  -- The reading had failed before.
+  -- The parse has failed before.
   pub after_error : {t : Machine V} {h : Trace} {words weight high : ℕ} → t.state.pending_text ≡ None → h ≡ with_texts e.output.is_printed (text fixed.AfterError ∷ []) (empty_trace None false) → 1 ≤ weight → Performs e t (part words h weight high) (Err (Abort fixed.AfterError)) t
   after_error k r w = ends fixed.AfterError [] (omega arith) k r paid_none (omega arith) w
 
-  -- A stretch is handed over.
+  -- A token is emitted.
   pub advanced_by : {t : Machine V} {h : Trace} {words weight high : ℕ} (to : Continuation) (prefix : List ℕ) → length prefix ≤ words → (x : Token) {s : State} {v : V} {n : ℕ}
       → h ≡ with_looks prefix (with_texts e.output.is_printed (texts_of e.symbol e.form.include_hash x) (trace_of_state e.symbol e.form e.output.is_printed to s)) → e.output.prints t.output (texts_of e.symbol e.form.include_hash x) (Ok tt) v → s.pending_text ≡ None
       → n ≤ t.looks + total prefix → weight_left to + 1 ≤ weight + 100 * total prefix → height_at to s.depth_left ≤ high → Fits to s.depth_left s.lifetimes → Continued e (part words h weight high) t to (record t { state = s; output = v; looks = n })
@@ -214,7 +214,7 @@ module _ {V : Type 0} {e : Env V} where
       → Performs e t (part words h weight high) (Ok to) (record t { state = s; output = v; looks = n })
   tells to prefix c x r q y k p short w z f = record { comes = advanced_by to prefix c x r q k p.within w z f; grows = p.grows; own_looks = short; ready = λ _ _. y; if_ok = λ _ _ _. y }
 
-  -- The output refuses it.
+  -- The output rejects the token.
   pub halts : {t : Machine V} {h : Trace} {words weight high : ℕ} (prefix : List ℕ) → length prefix ≤ words → (x : Token) (rest : Trace) {s : State} {v : V} {n : ℕ} {r : SinkRefused}
       → h ≡ with_looks prefix (with_texts e.output.is_printed (texts_of e.symbol e.form.include_hash x) rest) → e.output.prints t.output (texts_of e.symbol e.form.include_hash x) (Err r) v
       → (e.output.is_printed ≡ false → rest.place ≡ None) → LooksWithin t.looks prefix n → n ≤ t.looks + step_looks_bound e.symbol t.state.place
@@ -227,28 +227,28 @@ module _ {V : Type 0} {e : Env V} where
     if_ok = λ _ m k. absurd (no_fault m k);
   }
 
-  -- Behind some looks, where all that were made are few enough
+  -- After some looks, if all looks that were made are within the bound.
   pub after_few : {t u : Machine V} {r : Result Continuation StepError} {h k : Trace} {words words' weight high weight' high' : ℕ} {s : State} {n : ℕ} (ks : List ℕ) → length ks + words' ≤ words → h ≡ with_looks ks k → LooksWithin t.looks ks n → u.looks ≤ t.looks + step_looks_bound e.symbol t.state.place
       → weight' ≤ weight + 100 * total ks → high' ≤ high → Performs e (record t { state = s; looks = n }) (part words' k weight' high') r u → Performs e t (part words h weight high) r u
   after_few {t} {u} {r} {h} {k} {words} {words'} {weight} {high} {weight'} {high'} {s} {n} ks c o p short w x z = record { comes = comes_after e t u h k words words' weight high weight' high' s n r ks c o p w x z.comes; grows = omega (arith, p.grows, z.grows); own_looks = short; ready = z.ready; if_ok = z.if_ok }
 
-  -- Behind some looks.
+  -- After some looks.
   pub following : {t u : Machine V} {r : Result Continuation StepError} {h k : Trace} {words words' weight high weight' high' : ℕ} {s : State} {n : ℕ} (ks : List ℕ) → length ks + words' ≤ words → h ≡ with_looks ks k → LooksWithin t.looks ks n → n + step_looks_bound e.symbol s.place ≤ t.looks + step_looks_bound e.symbol t.state.place
       → weight' ≤ weight + 100 * total ks → high' ≤ high → Performs e (record t { state = s; looks = n }) (part words' k weight' high') r u → Performs e t (part words h weight high) r u
   following ks c o p short w x z = after_few ks c o p (omega (arith, short, z.own_looks)) w x z
 
-  -- the same heard in another way
+  -- the same for an equal trace
   pub alike : {t u : Machine V} {r : Result Continuation StepError} {h k : Trace} {words words' weight high weight' high' : ℕ} → words' ≤ words → h ≡ k → weight' ≤ weight → high' ≤ high → Performs e t (part words' k weight' high') r u → Performs e t (part words h weight high) r u
   alike c o w x z = following [] (omega (arith, c)) o paid_none (omega arith) (omega (arith, w)) x z
 
 abbrev pub word_of : {V : Type 0} → Env V → TokenKind → State → TokenSpec
 word_of e x s = token_spec e.symbol x s.letter e.output.is_printed s.lifetimes s.place
 
--- a part of a point that begins with a word
+-- a part of a continuation that begins with a primitive
 abbrev pub token_part : {V : Type 0} → Env V → ℕ → TokenKind → Items → State → ℕ → ℕ → StepPart
 token_part e words x p s weight high = part words (trace e.output e.symbol e.form (token_items x s.letter p) s.depth_left s.lifetimes s.place) weight high
 
--- What is read as a group.
+-- Primitives that are read by a token spec.
 module _ {V : Type 0} {e : Env V} where
   pub group_tells : {t : Machine V} {h : Trace} {words weight high : ℕ} {s : State} {v : V} {n : ℕ} (to : Continuation) (g : TokenSpec) → length g.costs ≤ words → (k : Place → Trace) (y : Token) (j : Place) → h ≡ group_then e.output e.symbol e.form g k → reads.Parsed y j ≡ g.reads → LooksWithin t.looks g.costs n
       → n ≤ t.looks + step_looks_bound e.symbol t.state.place → e.output.prints t.output (texts_of e.symbol e.form.include_hash y) (Ok tt) v → e.output.ready v → s.pending_text ≡ None → k j ≡ trace_of_state e.symbol e.form e.output.is_printed to s
@@ -264,7 +264,7 @@ module _ {V : Type 0} {e : Env V} where
       → n ≤ t.looks + step_looks_bound e.symbol t.state.place → t.state.pending_text ≡ None → 1 ≤ weight → Performs e t (part words h weight high) (Err (Abort m)) (record t { looks = n })
   group_faults g c k m so r p short x w = ends m g.costs c x (group_so e.output e.symbol e.form _ g k (reads.NotParsed m) so r) p short w
 
-  -- Words behind which the unit goes on.
+  -- Primitives after which the production continues.
 
   pub token_continues : {t : Machine V} {words weight high : ℕ} {s : State} {v : V} {n : ℕ} → 4 ≤ words → (to : Continuation) (x : TokenKind) (p : Items) (y : Token) (j : Place) → reads.Parsed y j ≡ (word_of e x t.state).reads → LooksWithin t.looks (word_of e x t.state).costs n → e.output.prints t.output (texts_of e.symbol e.form.include_hash y) (Ok tt) v → e.output.ready v → s.pending_text ≡ None
       → trace e.output e.symbol e.form p t.state.depth_left t.state.lifetimes j ≡ trace_of_state e.symbol e.form e.output.is_printed to s → weight_left to + 1 ≤ weight → height_at to s.depth_left ≤ high → Fits to s.depth_left s.lifetimes
@@ -284,7 +284,7 @@ module _ {V : Type 0} {e : Env V} where
       group_faults (word_of e x t.state) (omega (arith, primitive_count, group_few e.symbol x t.state.letter e.output.is_printed t.state.lifetimes t.state.place)) (trace e.output e.symbol e.form p t.state.depth_left t.state.lifetimes) m (token_so e.output e.symbol e.form x t.state.letter p t.state.depth_left t.state.lifetimes t.state.place) r q
       (omega (arith, q.within, group_short e.symbol x t.state.letter e.output.is_printed t.state.lifetimes t.state.place)) k w
 
-  -- Words with which a unit ends.
+  -- Primitives with which a production ends.
 
   pub token_ends : {t : Machine V} {v : V} {n : ℕ} (x : TokenKind) (y : Token) (j : Place) → reads.Parsed y j ≡ (word_of e x t.state).reads → LooksWithin t.looks (word_of e x t.state).costs n → e.output.prints t.output (texts_of e.symbol e.form.include_hash y) (Ok tt) v → e.output.ready v → t.state.pending_text ≡ None
       → PerformsRest e (token_items x t.state.letter done) 4 1 0 t (Ok continuation.End) (record t { state = record t.state { place = j; is_bracket_open = false }; output = v; looks = n })
@@ -298,7 +298,7 @@ module _ {V : Type 0} {e : Env V} where
   pub token_faults : {t : Machine V} {n : ℕ} (x : TokenKind) (m : FixedText) → reads.NotParsed m ≡ (word_of e x t.state).reads → LooksWithin t.looks (word_of e x t.state).costs n → t.state.pending_text ≡ None → PerformsRest e (token_items x t.state.letter done) 4 1 0 t (Err (Abort m)) (record t { looks = n })
   token_faults x m r p k = word_stops (omega arith) x done m r p k (omega arith)
 
-  -- one that hands nothing over
+  -- a primitive that emits nothing
   pub token_bare : {t u : Machine V} {r : Result Continuation StepError} {words words' weight high weight' high' : ℕ} {s : State} {n : ℕ} → 4 + words' ≤ words → (x : TokenKind) (p : Items) (y : Token) (j : Place) → reads.Parsed y j ≡ (word_of e x t.state).reads → texts_of e.symbol e.form.include_hash y ≡ [] → LooksWithin t.looks (word_of e x t.state).costs n
       → u.looks ≤ t.looks + step_looks_bound e.symbol t.state.place → weight' ≤ weight → high' ≤ high → Performs e (record t { state = s; looks = n }) (part words' (trace e.output e.symbol e.form p t.state.depth_left t.state.lifetimes j) weight' high') r u → Performs e t (token_part e words x p t.state weight high) r u
   token_bare {t} primitive_count x p y j r o q short w z d =

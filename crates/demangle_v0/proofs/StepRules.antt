@@ -1,4 +1,4 @@
--- Steps of points, one behind another.
+-- Steps of continuations, in sequence.
 use Rattle.std.proofs.lemmas.List.{append-nil}
 use Rattle.std.proofs.Common.{◌≡◌, ℕ, ◌+◌, ◌≤◌, Bool, false, List, [], ◌∷◌, ◌++◌, Result, Err, refl, arith, sym, ap, ◌∙◌}
 use Rattle.demangle_v0_grammar.specs.Items.{Items, Kind, child, done}
@@ -41,11 +41,11 @@ pub total_both : (ks ls : List ℕ) → total (ks ++ ls) ≡ total ks + total ls
 total_both [] ls = omega arith
 total_both (k ∷ ks) ls = omega (arith, total_both ks ls)
 
--- nothing was put on the stack
+-- no frame was pushed
 pub kept_none : (stack : List Frame) → KeepsFrames stack stack
 kept_none stack = ([], sym (append-nil stack))
 
--- where the unit is over, nothing weighs
+-- if the production is complete, its weight does not count
 pub way_light : (p : Continuation) → weight_left p ≤ weight_at p
 way_light continuation.End = omega arith
 way_light p = omega arith
@@ -54,42 +54,42 @@ abbrev pub refused : SinkRefused → Result (Unit {0}) SinkRefused
 refused e = Err e
 
 module _ {V : Type 0} (output : Ghosts V) (b : List ℕ) (form : Form) where
-  -- what is heard of a unit's rest
+  -- the trace of the rest of a production
   abbrev pub trace : Items → ℕ → ℕ → Place → Trace
   trace p left n i = with_closed_bracket (of form.include_hash output.is_printed (parse p (context_at b form.fold_arguments output.is_printed left n) i))
 
-  -- a child with which a unit ends
+  -- a nested production that is the last item
   pub child_last : (k : Kind) (v : Bool) (left n : ℕ) (i : Place) → trace (child k v done) left n i ≡ with_closed_bracket (of form.include_hash output.is_printed (unit_outcome (context_at b form.fold_arguments output.is_printed left n) k v i))
   unfolding parse
   child_last k v left n i = let o = unit_outcome (context_at b form.fold_arguments output.is_printed left n) k v i in ap (λ xs. record { events = xs; place = o.place; is_bracket_open = false }) (append-nil (events form.include_hash output.is_printed o.tree))
 
-  -- What is read as a group, and what stands behind it.
+  -- The parts that a token spec reads, and the items after them.
 
-  -- the unit ends there
+  -- the production ends there
   abbrev ended : Place → Trace
   ended j = empty_trace j false
 
-  -- a group, and what is heard behind it
+  -- a token spec, and the trace after it
   abbrev pub group_then : TokenSpec → (Place → Trace) → Trace
   group_then g k = grouped b form.include_hash output.is_printed g k
 
-  -- a group with which the unit ends
+  -- a token spec with which the production ends
   abbrev pub group_trace : TokenSpec → Trace
   group_trace g = group_then g ended
 
-  -- no bracket is open behind a word, where none is behind the rest
+  -- the bracket is closed after a primitive if it is closed after the rest
   token_shut : (ks : List ℕ) (r : TokenOutcome) (k : Place → Trace) → with_closed_bracket (with_looks ks (token_then b form.include_hash output.is_printed r k)) ≡ with_looks ks (token_then b form.include_hash output.is_printed r (λ j. with_closed_bracket (k j)))
   token_shut ks (reads.Parsed x j) k = refl
   token_shut ks (reads.NotParsed m) k = refl
 
-  -- the same of a group
+  -- the same for a token spec
   pub group_shut : (h : Trace) (g : TokenSpec) (k : Place → Trace) → h ≡ group_then g k → with_closed_bracket h ≡ group_then g (λ j. with_closed_bracket (k j))
   group_shut h g k e = ap with_closed_bracket e ∙ token_shut g.costs g.reads k
 
-  -- a word is read as its group
+  -- a primitive is read by its token spec
   pub token_so : (x : TokenKind) (c : ℕ) (p : Items) (left n : ℕ) (i : Place) → trace (token_items x c p) left n i ≡ group_then (token_spec b x c output.is_printed n i) (trace p left n)
   token_so x c p left n i = group_shut _ (token_spec b x c output.is_printed n i) (λ j. of form.include_hash output.is_printed (parse p (context_at b form.fold_arguments output.is_printed left n) j)) (word_read b form.include_hash form.fold_arguments left output.is_printed n x c p i)
 
-  -- what is heard of a group that was read so
+  -- the trace of a token spec that was read
   pub group_so : (h : Trace) (g : TokenSpec) (k : Place → Trace) (r : TokenOutcome) → h ≡ group_then g k → r ≡ g.reads → h ≡ with_looks g.costs (token_then b form.include_hash output.is_printed r k)
   group_so h g k r so e = so ∙ ap (λ (z : TokenOutcome). with_looks g.costs (token_then b form.include_hash output.is_printed z k)) (sym e)

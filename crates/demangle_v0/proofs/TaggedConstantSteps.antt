@@ -38,14 +38,14 @@ constant_so e s c o q =
 abbrev with_braces : Bool → Items → Items
 with_braces v q = if v then q else print_str "{" (extended (print_str "}" done) q)
 
--- the state and the stack behind a mark, with a brace to come but in value position
+-- the state and the stack after a pending text; outside value position, a closing brace follows
 abbrev pub Braced : (Bool → Option FixedText) → State → List Frame → State → List Frame → Type 0
 Braced g s stack new now = (new ≡ record s { pending_text = g s.in_value }) × (now ≡ pushed_on stack (brace_after s))
 
 abbrev open_text : Bool → Option FixedText
 open_text v = if v then None else Some fixed.OpenBrace
 
--- a constant that is more than a literal goes on at this point
+-- a constant that is more than a literal continues at this continuation
 abbrev DidBraced : {V : Type 0} → Env V → ConstantKind → Continuation → Type 0
 DidBraced {V = V} e k p = (t : Machine V) (s : State) (stack : List Frame) → Fits continuation.Constant t.state.depth_left t.state.lifetimes → Braced open_text t.state t.stack s stack
     → Performs e t (part 6 (items_of e (constant_of t.state.in_value 0 k) t.state) 6 (8 * t.state.depth_left + 9)) (Ok p) (record t { state = s; stack = stack })
@@ -61,7 +61,7 @@ module _ {V : Type 0} {e : Env V} where
       → Performs e t (part words (items_of e (constant_of t.state.in_value c k) t.state) weight high) r u → PerformsRest e (constant t.state.in_value c) 6 6 9 t r u
   constant_as {t} c k o primitive_count w x d = alike primitive_count (constant_so e t.state c (Some k) o) w x d
 
-  -- Braces: of these items at the point, and a closing brace behind them outside value position.
+  -- Braces: these items at the continuation, and a closing brace after them outside value position.
   pub braced : {t : Machine V} {s : State} {stack : List Frame} {words weight high : ℕ} (p : Continuation) (q : Items) (g : Bool → Option FixedText) (x : Bool → Items) → items_of e (x true) t.state ≡ with_texts e.output.is_printed (pending_texts (g true)) (items_of e q t.state)
       → items_of e (x false) t.state ≡ with_texts e.output.is_printed (pending_texts (g false)) (items_of e (extended (print_str "}" done) q) t.state) → IsExtended q → Inside e p q → weight_left p + 3 ≤ weight → 8 * t.state.depth_left + 3 ≤ high → ((left : ℕ) → height_at p left ≤ 8 * left + 2)
       → Fits p t.state.depth_left t.state.lifetimes → Fits continuation.CloseBrace t.state.depth_left t.state.lifetimes → Braced g t.state t.stack s stack → Performs e t (part words (items_of e (x t.state.in_value) t.state) weight high) (Ok p) (record t { state = s; stack = stack })

@@ -1,4 +1,4 @@
--- The points of tuple types.
+-- The continuations of tuple types.
 use Rattle.std.proofs.Common.{true, false, refl, arith}
 use Rattle.demangle_v0_grammar.specs.Items.{done}
 use Rattle.demangle_v0_grammar.specs.Table.{more, type_inside, print_str}

@@ -1,4 +1,4 @@
--- The points of types.
+-- The continuations of types.
 use Rattle.std.specs.Prelude.{if◌then◌else◌, ◌*◌, ◌==◌, slice_get, codes}
 use Rattle.std.proofs.Common.{inl, inr, ◌⊎◌, ◌≡◌, ℕ, ◌+◌, ◌-◌, ◌<◌, ◌≤◌, ◌≢◌, Bool, true, false, cond, Option, Some, None, List, [], ◌∷◌, ◌++◌, Result, Ok, Err, refl, arith, sym, ap, ◌∙◌}
 use Rattle.std.proofs.lemmas.List.{append-nil}
@@ -34,7 +34,7 @@ use Rattle.demangle_v0.proofs.StepRules.{trace, child_last}
 use Rattle.demangle_v0.proofs.StepCases.{Within, ends, enters, marks, moves, text_step, after_few}
 use Rattle.demangle_v0_grammar.proofs.TypeTraces.{row_at, splat_reads, type_reads, tag_missing, basic_reads, type_deep, constructed_reads, path_type_reads, row_reads}
 
--- the point of a type that is begun, or gone on with behind its `w`
+-- the continuation of a type at its start, or after its `w`
 pub type_point : (p : Continuation) (q : Bool) → (p ≡ continuation.«Type») ⊎ (p ≡ continuation.TaggedType) → (p ≡ continuation.«Type» → q ≡ true) → (p ≡ continuation.TaggedType → q ≡ false) → (if q then continuation.«Type» else continuation.TaggedType) ≡ p
 type_point p q (inl e) y n = rw (y e) (sym e)
 type_point p q (inr e) y n = rw (n e) (sym e)
@@ -47,7 +47,7 @@ lifetime_within : (q : Bool) → Within (lifetime_continuation q) 3 2
 lifetime_within true = record { light = omega arith; low = λ left. omega arith; fits = λ left n f. f }
 lifetime_within false = record { light = omega arith; low = λ left. omega arith; fits = λ left n f. f }
 
--- What is a `w`, and what is none.
+-- Whether the next byte is a `w`.
 
 pub splat_missing : (b : List ℕ) (i : ℕ) → None ≡ slice_get b i → is_byte b i (code "w") ≡ false
 unfolding is_byte
@@ -61,20 +61,20 @@ pub splat_there : (b : List ℕ) (i x : ℕ) → Some x ≡ slice_get b i → x 
 unfolding is_byte
 splat_there b i x o f = rw (sym o) (eq-eqb x 119 f)
 
--- no basic type has that tag
+-- no basic type has this tag
 pub basic_no_splat : (x : ℕ) (m : FixedText) → Some m ≡ found x basic_type_texts → x ≢ 119
 basic_no_splat x m f e = none-some m (sym (f ∙ ap (λ (t : ℕ). found t basic_type_texts) e))
 
--- nor does a type of the table
+-- no type of the table has it either
 pub kind_no_splat : (x : ℕ) (k : TypeKind) → Some k ≡ found x (type_kinds x) → x ≢ 119
 kind_no_splat x k f e = none-some k (sym (f ∙ ap (λ (t : ℕ). found t (type_kinds t)) e))
 
--- that tag is the one of a shared reference
+-- this tag is that of a shared reference
 pub shared_kind : (x : ℕ) → x ≡ code "R" → Some kind.SharedReference ≡ found x (type_kinds x)
 shared_kind x e = rw e refl
 
 module _ {V : Type 0} (output : Ghosts V) (b : List ℕ) (form : Form) where
-  -- one whose text behind it is not printed
+  -- a nested production whose following text is not printed
   pub child_silent : (k : Kind) (v : Bool) (left n : ℕ) (i : Place) (t : Text) (out : Bool) → out ≡ false → with_closed_bracket (of form.include_hash out (parse (child k v (print t done)) (context_at b form.fold_arguments out left n) i)) ≡ with_closed_bracket (of form.include_hash out (unit_outcome (context_at b form.fold_arguments out left n) k v i))
   unfolding parse
   child_silent k v left n i t true q = absurd (false≢true (sym q))
@@ -89,7 +89,7 @@ module _ {V : Type 0} (output : Ghosts V) (b : List ℕ) (form : Form) where
 
   -- references
 
-  -- what stands behind a reference, where it has no lifetime
+  -- the items after a reference without a lifetime
   pub after_so : (q : Bool) (v : Bool) (c left n : ℕ) (i : Place) (o : Bool) → trace output b form (print_if q "mut " type_inside) left n i ≡ trace_at b form output.is_printed (after_reference_lifetime q) v c left n i o
   unfolding trace_at
   after_so true v c left n i o = refl
@@ -105,7 +105,7 @@ module _ {V : Type 0} (output : Ghosts V) (b : List ℕ) (form : Form) where
   pub basic_so : (t : ℕ) (m : Option FixedText) → m ≡ found t basic_type_texts → row_text t basic_types ≡ then_if_some m (λ m. Some (text m))
   basic_so t m e = basic_found t ∙ ap (λ (o : Option FixedText). then_if_some o (λ m. Some (text m))) (sym e)
 
-  -- the table's entry of a tag
+  -- the entry of a tag in the table
   pub row_so : (t : ℕ) (k : Option TypeKind) → k ≡ found t (type_kinds t) → row_at t (type_rows t) ≡ then_if_some k (λ k. Some (type_of k))
   row_so t k e = ap (row_at t) (kinds_so t) ∙ go (type_kinds t) ∙ ap (λ (o : Option TypeKind). then_if_some o (λ k. Some (type_of k))) (sym e)
     where
@@ -147,7 +147,7 @@ module _ {V : Type 0} {e : Env V} where
 
 -- Types.
 module _ {V : Type 0} {e : Env V} where
-  -- a child in brackets, where the closing one is put on the stack only to be heard
+  -- a nested production in brackets; the frame for the closing bracket is pushed only if the output prints
   pub encloses : {t : Machine V} {h : Trace} {words weight high : ℕ} {stack : List Frame} (to : Continuation) (k : Kind) (v value : Bool) (m : FixedText) → let s = record t.state { in_value = value; pending_text = Some m } in
       h ≡ trace e.output e.symbol e.form (print (text m) (child k v (print_str "]" done))) s.depth_left s.lifetimes s.place
       → with_closed_bracket (of e.form.include_hash e.output.is_printed (unit_outcome (context_at e.symbol e.form.fold_arguments e.output.is_printed s.depth_left s.lifetimes) k v s.place)) ≡ trace_of_state e.symbol e.form e.output.is_printed to s
@@ -163,7 +163,7 @@ module _ {V : Type 0} {e : Env V} where
       go true o = enters to (frame_at continuation.CloseBracket t.state) (r ∙ ap (λ (z : Trace). with_texts e.output.is_printed (text m ∷ []) (and_then z (trace_of_frame e.symbol e.form e.output.is_printed (frame_at continuation.CloseBracket t.state)))) q) (shown o) (omega (arith, w)) x y f g refl
       go false o = rw (unprinted o) (marks to (r ∙ ap (with_texts e.output.is_printed (text m ∷ [])) (child_silent e.output e.symbol e.form k v s.depth_left s.lifetimes s.place (codes "]") e.output.is_printed o ∙ q)) (omega (arith, w)) (omega (arith, y)) g)
 
-  -- Behind a look at the tag.
+  -- After a look at the tag.
 
   pub no_tag : {t : Machine V} {n : ℕ} (i : ℕ) → t.state.place ≡ Some i → None ≡ slice_get e.symbol i → n ≡ t.looks + 1 → t.state.pending_text ≡ None → PerformsAt e continuation.TaggedType t (Err (Abort fixed.Invalid)) (record t { looks = n })
   unfolding trace_at
@@ -183,7 +183,7 @@ module _ {V : Type 0} {e : Env V} where
       ends fixed.Recursion (1 ∷ []) (omega arith) k (rw at (ap with_closed_bracket (type_deep e.form.include_hash e.form.fold_arguments e.output.is_printed e.symbol t.state.depth_left t.state.lifetimes i x (sym o) (basic_so e.output e.symbol e.form x None f) z)))
       (record { grows = omega (arith, l); within = omega (arith, l) }) (rw at (omega (arith, l))) (omega arith)
 
-  -- any other is that of a path
+  -- any other tag is that of a path
   pub path_follows : {t : Machine V} {n : ℕ} (i x : ℕ) → t.state.place ≡ Some i → Some x ≡ slice_get e.symbol i → None ≡ found x basic_type_texts → 0 < t.state.depth_left → None ≡ found x (type_kinds x) → n ≡ t.looks + 1 → t.state.pending_text ≡ None → Fits continuation.TaggedType t.state.depth_left t.state.lifetimes
       → PerformsAt e continuation.TaggedType t (Ok continuation.Path) (record t { state = record t.state { in_value = false; depth_left = t.state.depth_left - 1 }; looks = n })
   unfolding trace_at
@@ -216,12 +216,12 @@ module _ {V : Type 0} {e : Env V} where
       let s = t.state in
       after_few (1 ∷ []) (omega arith) (rw at (ap with_closed_bracket (type_reads e.form.include_hash e.form.fold_arguments e.output.is_printed e.symbol s.depth_left s.lifetimes false i o))) (record { grows = l; within = omega (arith, m) }) short (omega arith) (omega arith) (rw at at d)
 
-  -- a tag that is no `w` is read in the same way, whether the type begins at it or before it
+  -- a tag other than `w` is read in the same way at the start of a type and after a `w`
   pub type_tagged : {t u : Machine V} {r : Result Continuation StepError} (q : Bool) (i : ℕ) → t.state.place ≡ Some i → (q ≡ true → is_byte e.symbol i (code "w") ≡ false) → PerformsAt e continuation.TaggedType t r u → PerformsAt e (if q then continuation.«Type» else continuation.TaggedType) t r u
   type_tagged true i at o d = type_continues i at (o refl) (omega arith) (omega arith) d.own_looks d
   type_tagged false i at o d = d
 
-  -- a type that is begun, or gone on with behind its `w`
+  -- a type at its start, or after its `w`
   pub type_either : {t u : Machine V} {r : Result Continuation StepError} (q : Bool) → (q ≡ true → PerformsAt e continuation.«Type» t r u) → (q ≡ false → PerformsAt e continuation.TaggedType t r u) → PerformsAt e (if q then continuation.«Type» else continuation.TaggedType) t r u
   type_either true h k = h refl
   type_either false h k = k refl

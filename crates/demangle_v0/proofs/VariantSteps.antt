@@ -1,4 +1,4 @@
--- The points of variants, and of their fields.
+-- The continuations of variants, and of their fields.
 use Rattle.std.specs.Prelude.{◌*◌, if◌then◌else◌}
 use Rattle.std.proofs.Common.{◌≡◌, ℕ, ◌+◌, ◌-◌, ◌≤◌, length, Bool, true, false, Option, Some, None, List, [], ◌∷◌, Result, Ok, Err, refl, arith, sym, ap, ◌∙◌}
 use Rattle.demangle_symbol.specs.Primitives.{some_or, byte_at}
@@ -27,11 +27,11 @@ use Rattle.demangle_v0.proofs.StepRules.{trace}
 use Rattle.demangle_v0.proofs.TaggedConstantSteps.{Braced, braced}
 use Rattle.demangle_v0.proofs.StepCases.{after_few, ends, marks, after_error}
 
--- what stands behind a field's name
+-- the items after the name of a field
 abbrev pub after_field : Items
 after_field = print_str ": " constant_inside
 
--- behind its tag
+-- after its tag
 variant_so : {V : Type 0} (e : Env V) (s : State) (i c j : ℕ) (p : Option VariantKind) → Some (c, j) ≡ byte_at e.symbol i → p ≡ found c variant_kinds
     → trace_at e.symbol e.form e.output.is_printed continuation.Variant s.in_value s.letter s.depth_left s.lifetimes (Some i) s.is_bracket_open ≡ with_looks (4 * (j - i + 1) ∷ []) (trace e.output e.symbol e.form (some_or invalid p (variant_of s.in_value)) s.depth_left s.lifetimes (Some j))
 unfolding trace_at
@@ -39,7 +39,7 @@ variant_so e s i c j p o q =
     ap with_closed_bracket (variant_reads e.form.include_hash e.form.fold_arguments e.output.is_printed e.symbol s.depth_left s.lifetimes (closes s.in_value) i c j (sym o))
     ∙ ap (λ (x : Items). with_looks (4 * (j - i + 1) ∷ []) (trace e.output e.symbol e.form x s.depth_left s.lifetimes (Some j))) (row_found c invalid (variant_of s.in_value) variant_kinds ∙ ap (λ (p : Option VariantKind). some_or invalid p (variant_of s.in_value)) (sym q))
 
--- what it holds is read from this point on
+-- the fields are read from this continuation on
 abbrev DidHold : {V : Type 0} → Env V → VariantKind → Continuation → FixedText → Type 0
 DidHold {V = V} e k p m = (t : Machine V) (s : State) (stack : List Frame) → Fits continuation.Variant t.state.depth_left t.state.lifetimes → Braced (λ _. Some m) t.state t.stack s stack → PerformsRest e (variant_of t.state.in_value k) 3 5 3 t (Ok p) (record t { state = s; stack = stack })
 
@@ -69,7 +69,7 @@ module _ {V : Type 0} {e : Env V} where
   unit_ends true y o = rw o (marks continuation.End (rw y refl) (omega arith) (omega arith) tt)
   unit_ends false y o = rw o (marks continuation.End (rw y refl) (omega arith) (omega arith) tt)
 
-  -- What a variant holds.
+  -- The fields of a variant.
 
   pub tuple_opens : DidHold e kind.Tuple continuation.FirstVariantConstant fixed.OpenParen
   unfolding parse trace_at

@@ -1,4 +1,4 @@
--- Readings of a whole path.
+-- Parses of a whole path.
 use Rattle.std.specs.Prelude.{◌*◌}
 use Rattle.std.proofs.Common.{inl, inr, ◌⊎◌, ◌≡◌, ℕ, ◌+◌, ◌≤◌, Bool, true, false, None, Some, List, [], ◌∷◌, ◌++◌, length, refl, arith, sym, ap, ◌∙◌, subst}
 use Rattle.demangle_v0_grammar.specs.ValidationLooks.{looks_in}
@@ -20,7 +20,7 @@ use Rattle.demangle_v0.specs.declared.parser.steps.ReadOutcome.{ReadOutcome}
 use Rattle.demangle_v0.specs.declared.parser.steps.ReadOutcome.TheVariants as halt
 use Rattle.demangle_v0_grammar.proofs.ParsedIffSpelled.{printing_is_spelling, reading_is_spelling}
 use Rattle.demangle_v0_grammar.proofs.FailedRows.{allowed_looks}
-use Rattle.demangle_v0_grammar.proofs.Rules.{named_freely}
+use Rattle.demangle_v0_grammar.proofs.Rules.{spelled_freely}
 use Rattle.demangle_v0_grammar.proofs.TraceLemmas.{and_then_ended}
 use Rattle.demangle_v0_tokens.specs.declared.output.NoOutput.{NoOutput}
 use Rattle.demangle_v0.proofs.Heights.{stands_first}
@@ -29,7 +29,7 @@ use Rattle.demangle_v0.proofs.LoopLemmas.{ran_place, ran_looks, broke_fails}
 pub valid_first : (i : ℕ) → Valid continuation.Path (first_state i) []
 valid_first i = record { has_room = stands_first frame_height most_frames (8 * max_depth + 1) (omega arith); fits = omega arith; all_fit = tt; no_pending_text = refl }
 
--- a stack for all that can ever stand there is never full
+-- a stack with room for every frame that can follow is never full
 pub valid_length : (p : Continuation) (s : State) (stack : List Frame) → Valid p s stack → length stack ≤ most_frames
 valid_length p s stack v = omega (arith, v.has_room.above)
 
@@ -65,21 +65,21 @@ first_allowed b include_hash i =
     ap (λ (h : Trace). allowed_in h.events) (remaining_trace-empty_stack b (form include_hash false) false continuation.Path (first_state i))
     ∙ (ap allowed_in (silent_events include_hash tree) ∙ allowed_looks true false tree)
 
--- What a silent reading tells of its place and its looks.
+-- The place and the looks of a parse without output.
 
 pub failed_of : {r : ReadOutcome} → (r ≡ halt.StackFull) ⊎ (r ≡ halt.Failed) → (r ≡ halt.StackFull → ⊥) → r ≡ halt.Failed
 failed_of (inl k) h = absurd (h k)
 failed_of (inr k) h = k
 
 module _ {b : List ℕ} {form : Form} {p q : Continuation} {s : State} {stack : List Frame} {m : ℕ} {u : Machine NoOutput} where
-  -- it came to an end
+  -- the parse ended
   pub over_value : ReadDone (no_output_env b form) [] p (no_output_machine s stack m) halt.Complete q u → u.state.place ≡ (remaining_trace b form false p s stack).place
   over_value r = sym (over_place b form u.state) ∙ ran_place r.reads.1
 
   pub over_looks : ReadDone (no_output_env b form) [] p (no_output_machine s stack m) halt.Complete q u → u.looks ≤ m + allowed_in (remaining_trace b form false p s stack).events
   over_looks r = omega (arith, ran_looks r.reads.1)
 
-  -- it failed
+  -- the parse failed
   pub failed_value : ReadDone (no_output_env b form) [] p (no_output_machine s stack m) halt.Failed q u → None ≡ (remaining_trace b form false p s stack).place
   failed_value r = sym (broke_fails refl r.reads.0 r.reads.1).0
 
@@ -99,22 +99,22 @@ module _ {b : List ℕ} {form : Form} {p q : Continuation} {s : State} {stack : 
   pub full_looks : ReadDone (no_output_env b form) [] p (no_output_machine s stack m) halt.StackFull q u → u.looks + allowed_in (remaining_trace b form false q u.state u.stack).events ≤ m + allowed_in (remaining_trace b form false p s stack).events
   full_looks r = ran_looks (full_ran r)
 
--- Printing ends where a silent reading does.
+-- Printing ends at the place where a parse without output ends.
 
-printed_place : (b : List ℕ) (include_hash : Bool) (s : State) → (remaining_trace b (form include_hash false) true continuation.End s []).place ≡ s.place
+printed_place : (b : List ℕ) (form : Form) (s : State) → (remaining_trace b form true continuation.End s []).place ≡ s.place
 unfolding trace_at trace_of_stack
-printed_place b include_hash s = refl
+printed_place b form s = refl
 
-first_printed : (b : List ℕ) (include_hash : Bool) → (remaining_trace b (form include_hash false) true continuation.Path (first_state 0) []).place ≡ (read_at b false true a_path 0 0 0 true).place
+first_printed : (b : List ℕ) (form : Form) → (remaining_trace b form true continuation.Path (first_state 0) []).place ≡ (read_at b form.fold_arguments true a_path 0 0 0 true).place
 unfolding trace_at read_at
-first_printed b include_hash = ap (λ (h : Trace). h.place) (remaining_trace-empty_stack b (form include_hash false) true continuation.Path (first_state 0))
+first_printed b form = ap (λ (h : Trace). h.place) (remaining_trace-empty_stack b form true continuation.Path (first_state 0))
 
-read_end : (b : List ℕ) (j : ℕ) → (read_at b false true a_path 0 0 0 true).place ≡ Some j → Some j ≡ unit_end b a_path 0 0
+read_end : (b : List ℕ) (folds : Bool) (j : ℕ) → (read_at b folds true a_path 0 0 0 true).place ≡ Some j → Some j ≡ unit_end b a_path 0 0
 unfolding unit_end
-read_end b j e =
-    sym ((reading_is_spelling b false a_path true 0 j 0 0 (omega arith) (omega arith)).1 (named_freely ((printing_is_spelling b false a_path true 0 j 0 0 (omega arith) (omega arith)).0 e)))
+read_end b folds j e =
+    sym ((reading_is_spelling b false a_path true 0 j 0 0 (omega arith) (omega arith)).1 (spelled_freely ((printing_is_spelling b folds a_path true 0 j 0 0 (omega arith) (omega arith)).0 e)))
 
-pub printed_end : {S : Type 0} (sink : Sinks S) (b : List ℕ) (include_hash : Bool) {v w : SizeLimitedFmtAdapter S} {m n place : ℕ} →
-    EndedAt (printing sink b (form include_hash false)) continuation.Path (machine (first_state 0) [] v m) place w n → Some place ≡ unit_end b a_path 0 0
-printed_end sink b include_hash {place = place} z =
-    read_end b place (sym (first_printed b include_hash) ∙ (sym (ran_place z.ran) ∙ (printed_place b include_hash z.state ∙ z.at)))
+pub printed_end : {S : Type 0} (sink : Sinks S) (b : List ℕ) (form : Form) {v w : SizeLimitedFmtAdapter S} {m n place : ℕ} →
+    EndedAt (printing sink b form) continuation.Path (machine (first_state 0) [] v m) place w n → Some place ≡ unit_end b a_path 0 0
+printed_end sink b form {place = place} z =
+    read_end b form.fold_arguments place (sym (first_printed b form) ∙ (sym (ran_place z.ran) ∙ (printed_place b form z.state ∙ z.at)))

@@ -45,7 +45,8 @@ StepCases env p before (Err e) after = Stopped env (whole env p before.state) be
 pub record StepDone {V : Type 0} (env : Env V) (p : Continuation) (before : Machine V) (result : Result Continuation SinkRefused) (after : Machine V) : Type 0 where
   pub steps : StepCases env p before result after
 
--- Unless the continuation is `End`, nothing changes. After `End` the top frame resumes, if there are more than `base` frames.
+-- Unless the continuation is `End`, nothing changes. After `End` the top frame resumes, if there are more than `base`
+-- frames.
 pub data ResumesAt (base : ℕ) (p : Continuation) (s : State) (stack : List Frame) (q : Continuation) (t : State) (now : List Frame) : Type 0 where
   stays : (p ≡ continuation.End → ⊥) → q ≡ p → t ≡ s → now ≡ stack → ResumesAt base p s stack q t now
   pops : (f : Frame) → p ≡ continuation.End → base < length stack → stack ≡ now ++ f ∷ [] → q ≡ f.continuation → t ≡ resumed_of s f → ResumesAt base p s stack q t now

@@ -61,8 +61,8 @@ abbrev pub Emits : {V : Type 0} → Env V → Option Token → V → V → Type 
 Emits env None v w = v ≡ w
 Emits env (Some s) v w = env.output.prints v (texts_of env.symbol env.form.include_hash s) (Ok tt) w
 
--- The step continues at another continuation, and may have pushed a frame. It prints at most one text: a token that goes to
--- the output, or the pending text.
+-- The step continues at another continuation, and may have pushed a frame. It prints at most one text: a token that
+-- goes to the output, or the pending text.
 pub record Continued {V : Type 0} (env : Env V) (part : StepPart) (before : Machine V) (to : Continuation) (after : Machine V) : Type 0 where
   pub prefix : List ℕ
   pub emitted : Option Token
@@ -94,8 +94,8 @@ pub record Aborted {V : Type 0} (env : Env V) (part : StepPart) (before : Machin
   pub paid_looks : after.looks ≤ before.looks + total prefix
   pub lighter : 1 ≤ part.weight + 100 * total prefix
 
--- The output rejected the token or, if nothing is printed, parsing failed. At most two looks were made too early, and none if
--- nothing is printed.
+-- The output rejected the token or, if nothing is printed, parsing failed. At most two looks were made too early, and
+-- none if nothing is printed.
 pub record Stopped {V : Type 0} (env : Env V) (part : StepPart) (before after : Machine V) : Type 0 where
   pub prefix : List ℕ
   pub emitted : Token
@@ -142,7 +142,8 @@ pub record Performs {V : Type 0} (env : Env V) (before : Machine V) (part : Step
 abbrev pub whole : {V : Type 0} → Env V → Continuation → State → StepPart
 whole env p s = part (primitives_at p) (trace_of_state env.symbol env.form env.output.is_printed p s) (weight_at p) (height_at p s.depth_left)
 
--- these remaining items of a production, with the most primitives to read, their weight, and the most frames that they add
+-- these remaining items of a production, with the most primitives to read, their weight, and the most frames that they
+-- add
 abbrev pub rest : {V : Type 0} → Env V → Items → ℕ → ℕ → ℕ → State → StepPart
 rest env items words weight above s = part words (with_closed_bracket (of env.form.include_hash env.output.is_printed (parse items (context_at env.symbol env.form.fold_arguments env.output.is_printed s.depth_left s.lifetimes) s.place))) weight (8 * s.depth_left + above)
 

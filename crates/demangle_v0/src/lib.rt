@@ -9,6 +9,7 @@ ghost use Rattle.demangle_sink.specs.Limit.{Prints, Ready};
 use crate::validation::{begins_path, print_to_suffix, suffix_at};
 use demangle_sink::{SizeLimitedFmtAdapter, TextSink};
 use demangle_symbol::cursor::{Looks, ParseError, Symbol};
+use demangle_v0_tokens::source::Source;
 
 mod parser;
 mod printer;
@@ -112,30 +113,37 @@ pub fn demangle<'s>(
     Ok((Demangle::new(symbol), &inner[end..]))
 }
 
-/// Reads a v0 symbol and prints its first path, in one pass over the path. Returns the symbol and
-/// the suffix after its paths. The text must be ASCII.
+/// Reads a v0 symbol and prints its first path, in one pass over the path: with hashes or without
+/// them, and with its generic arguments or with `_` for them. Returns the symbol and the suffix after
+/// its paths. The text must be ASCII.
 ///
-/// Returns `None` if the text is not a v0 symbol. Also returns `None` if a lifetime or a reference of
-/// the path has an error, if the limit or the sink rejects a piece, or if the path is nested deeply.
-/// Then an unknown part of the path may be printed, and `demangle` says whether the text is a
-/// symbol.
+/// Returns `None` if the text is not a v0 symbol. Also returns `None` if a lifetime or a reference
+/// of the path has an error, if the limit or the sink rejects a piece, or if the path is nested
+/// deeply. Then an unknown part of the path may be printed, and `demangle` says whether the text is
+/// a symbol.
 pub fn demangle_printed<'s, S: TextSink>(
     s: &'s str,
     out: &mut SizeLimitedFmtAdapter<'_, S>,
     include_hash: bool,
-    looks: &mut Looks,
+    fold_arguments: bool,
 ) -> Option<(Demangle<'s>, &'s str)>
     requires ascii { IsAscii s.now }
     requires ready { Ready S.TextSink out.old }
     ensures some { IfSome result (λ r. v0_of s.now ≡ Some (r.0, r.1.now)) }
     ensures prints { IfSome result (λ r. Prints S.TextSink out.old
-        (path_texts r.0 (form include_hash false)) (Ok tt) out.new) }
+        (path_texts r.0 (form include_hash fold_arguments)) (Ok tt) out.new) }
 {
-    let inner = ascii_inner_of(s, true, looks)?;
+    let mut looks = Looks::new();
+    let inner = ascii_inner_of(s, true, &mut looks)?;
     let symbol = Symbol::new(inner);
-    if !begins_path(&symbol, 0, looks) {
+    if !begins_path(&symbol, 0, &mut looks) {
         return None;
     }
-    let end = print_to_suffix(&symbol, out, include_hash, looks)?;
+    let source = Source {
+        symbol: &symbol,
+        include_hash,
+        fold_arguments,
+    };
+    let end = print_to_suffix(source, out, &mut looks)?;
     Some((Demangle::new(symbol), &inner[end..]))
 }

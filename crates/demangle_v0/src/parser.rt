@@ -1,8 +1,8 @@
 //! The v0 parser as a state machine.
 //!
-//! The parser does not recurse. Each `Continuation`, a continuation, names a position in a production of
-//! the grammar. Its method reads up to the next nested production, pushes a frame for what follows
-//! that production, and returns the continuation to run next.
+//! The parser does not recurse. Each `Continuation` names a position in a production of the
+//! grammar. Its method reads up to the next nested production, pushes a frame for what follows that
+//! production, and returns the continuation to run next.
 ghost use Rattle.std.specs.Prelude.{◌≡◌};
 
 use crate::parser::frames::Frame;

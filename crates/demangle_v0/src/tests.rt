@@ -172,8 +172,8 @@ fn steps_print(printed: PrintedPrefix<'_>, wanted: &str) -> bool {
     false
 }
 
-/// Does one step, or skips an impl path. Returns whether nothing was left to print, or `None` if the
-/// step printed more than one token or failed.
+/// Does one step, or skips an impl path. Returns whether nothing was left to print, or `None` if
+/// the step printed more than one token or failed.
 fn continues_on(parser: &mut Parser<'_, FULL_STACK>, sink: &mut CountingSink) -> Option<bool>
     requires ascii { IsAscii parser.old.source.symbol.now }
     requires valid { IsValid parser.old }

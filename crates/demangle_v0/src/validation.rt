@@ -125,8 +125,8 @@ impl Parser<'_, SHORT_STACK> {
         let Some(end) = self.path_end(0) else {
             return None;
         };
-        // A second path names the crate in which a generic was instantiated. It is read, so that the
-        // suffix begins after it, and never printed.
+        // A second path names the crate in which a generic was instantiated. It is read, so that
+        // the suffix begins after it, and never printed.
         if begins_path(self.source.symbol, end, &mut self.looks) {
             return self.path_end(end);
         }
@@ -169,25 +169,22 @@ pub fn begins_path(symbol: &Symbol<'_>, place: usize, looks: &mut Looks) -> bool
 /// Returns `None` after a syntax error, if the limit or the sink rejects a piece, or if the first
 /// stack is too short. Then an unknown part of the path may be printed.
 pub fn print_to_suffix<S: TextSink>(
-    symbol: &Symbol<'_>,
+    source: Source<'_>,
     out: &mut SizeLimitedFmtAdapter<'_, S>,
-    include_hash: bool,
     looks: &mut Looks,
 ) -> Option<usize>
-    requires ascii { IsAscii symbol.now }
+    requires ascii { IsAscii source.symbol.now }
     requires ready { Ready S.TextSink out.old }
-    ensures value { IfSome result (λ place. Some place ≡ suffix_place symbol.now) }
+    ensures value { IfSome result (λ place. Some place ≡ suffix_place source.symbol.now) }
     ensures prints { IfSome result (λ _. Prints S.TextSink out.old
-        (path_texts symbol.now (form include_hash false)) (Ok tt) out.new) }
+        (path_texts source.symbol.now (form source.include_hash source.fold_arguments)) (Ok tt)
+        out.new) }
 {
-    let source = Source {
-        symbol,
-        include_hash,
-        fold_arguments: false,
-    };
     let mut parser: Parser<SHORT_STACK> = Parser::at_path(source, 0, looks);
     let end = parser.print_to_place(out)?;
-    if begins_path(symbol, end, &mut parser.looks) {
+    if begins_path(source.symbol, end, &mut parser.looks) {
+        // Arguments are folded only when they are printed.
+        parser.source.fold_arguments = false;
         return parser.path_end(end);
     }
     Some(end)

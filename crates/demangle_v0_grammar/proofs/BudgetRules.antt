@@ -1,8 +1,8 @@
--- The rules of accounts: a larger account, lists joined, and what an account bounds.
+-- The rules of budgets: a larger budget, lists joined, and what a budget bounds.
 use Rattle.std.proofs.Common.{ℕ, zero, suc, ◌+◌, ◌-◌, ◌*◌, ◌≤◌, List, [], ◌∷◌, ◌++◌, take, arith}
 use Rattle.demangle_v0_grammar.specs.LookBudget.{LookCost, bytes_of, looks_of, IsWithinBudget}
 
--- What the account has more to begin with, it has more at the end.
+-- If the budget is larger by `f` at the start, it is larger by `f` at the end.
 pub IsWithinBudget-more : (r a b c d f : ℕ) (xs : List LookCost) → a + f ≤ b → d ≤ c + f → IsWithinBudget r a xs c → IsWithinBudget r b xs d
 IsWithinBudget-more r a b c d f [] m l p = omega arith
 IsWithinBudget-more r a b c d f (s ∷ xs) m l p = (
@@ -15,7 +15,7 @@ pub IsWithinBudget-append : (r a b c : ℕ) (xs ys : List LookCost) → IsWithin
 IsWithinBudget-append r a b c [] ys p q = IsWithinBudget-more r b a c c 0 ys (omega arith) (omega arith) q
 IsWithinBudget-append r a b c (s ∷ xs) ys p q = (p.0, IsWithinBudget-append r (a - s.looks + r * s.bytes) b c xs ys p.1 q)
 
--- What an account bounds: the looks up to a stretch and with it, by the bytes before it.
+-- What a budget bounds: the looks up to and including an entry, by the bytes before it.
 pub IsWithinBudget-bound : (r a c : ℕ) (xs : List LookCost) (k : ℕ) → IsWithinBudget r a xs c →
     looks_of (take (suc k) xs) ≤ a + r * bytes_of (take k xs)
 IsWithinBudget-bound r a c [] k p = omega arith

@@ -1,4 +1,4 @@
--- Only a dyn trait path can leave its `<` open: any other unit may end in its last child.
+-- Only a dyn trait path can leave its `<` open. Any other production may end in its last nested one.
 use Rattle.std.specs.Prelude.{T, IsTrue, ℕ, zero, suc, ◌&&◌, slice_get}
 use Rattle.std.proofs.Common.{◌≡◌, Bool, true, false, List, [], ◌∷◌, length, Option, Some, None, refl, subst, sym, ap, ◌∙◌, ◌+◌}
 use Rattle.std.proofs.lemmas.List.{append-nil}
@@ -12,7 +12,7 @@ use Rattle.demangle_v0_grammar.proofs.ItemBudgets.{start, rank, is_closed, Fits,
 use Rattle.demangle_v0_grammar.proofs.TableCost.{fits}
 use Rattle.demangle_v0_grammar.specs.Traces.{of, events, context_at}
 
--- any unit but a dyn trait path
+-- any production except a dyn trait path
 abbrev pub IsClosed : Kind → Type 0
 IsClosed kind = T (is_closed kind)
 
@@ -113,7 +113,7 @@ pub unit_closed : (b : List ℕ) (folds out : Bool) (left m : ℕ) (kind : Kind)
 unit_closed b folds out left m kind value None c = refl
 unit_closed b folds out left m kind value (Some i) c = level_closed b folds (levels b folds left) (levels_closed b folds left) out kind value m i (so (is_closed kind) c)
 
--- what is heard of a child that is the last of its unit
+-- the trace of a nested production that is the last item
 pub last_child : (plain folds out : Bool) (b : List ℕ) (left m : ℕ) (kind : Kind) (value : Bool) (i : Place) → IsClosed kind → of plain out (parse (child kind value done) (context_at b folds out left m) i) ≡ of plain out (unit_outcome (context_at b folds out left m) kind value i)
 unfolding parse
 last_child plain folds out b left m kind value i c =

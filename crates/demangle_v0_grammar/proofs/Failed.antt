@@ -1,4 +1,4 @@
--- Once failed, a reading stays so.
+-- A parse that has failed stays so.
 use Rattle.std.specs.Prelude.{ℕ}
 use Rattle.std.proofs.Common.{◌≡◌, Bool, true, false, None, refl}
 use Rattle.demangle_v0_grammar.specs.Items.{Items}

@@ -1,4 +1,4 @@
--- What a row still reads from a failed place: it ends failed, and takes no look.
+-- The remaining items of a row after an error: they end with the error, and make no look.
 use Rattle.std.specs.Prelude.{◌+◌}
 use Rattle.std.proofs.Common.{◌≡◌, Bool, true, false, List, [], ◌∷◌, ◌++◌, refl, arith}
 use Rattle.demangle_v0_grammar.specs.LookBudget.{LookCost, looks_of}
@@ -36,4 +36,4 @@ allowed_looks plain out (unprinted inside rest) =
     omega (arith, allowed_append (events plain false inside) (events plain out rest), looks_append (looks_only (costs_of plain inside)) (costs_of plain rest), looks_unheard (costs_of plain inside), allowed_looks plain false inside, allowed_looks plain out rest)
 allowed_looks plain out _ = allowed_said out _ []
 
--- A row of frames: what each still reads, and what the row does, whose last frame goes first.
+-- A stack of frames: the remaining items of each, and those of the row, whose last frame comes first.

@@ -19,7 +19,7 @@ module _ (plain : Bool) (b : List ℕ) (left n : ℕ) where
   abbrev pub arguments_trace : Bool → Place → Trace
   arguments_trace folds i = of plain false (parse (list ", " argument done) (context_at b folds false left n) i)
 
-  -- folded arguments allow the looks of reading them, and print `_`
+  -- folded arguments allow the looks of parsing them, and print `_`
   pub folded_reads : (folds : Bool) (q : Items) (i : Place) → folds ≡ true
       → of plain true (parse (arguments q) (context_at b folds true left n) i)
       ≡ with_looks (allowances (arguments_trace folds i).events) (with_texts true (codes "_" ∷ []) (of plain true (parse q (context_at b folds true left n) (arguments_trace folds i).place)))

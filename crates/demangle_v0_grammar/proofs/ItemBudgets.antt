@@ -1,4 +1,4 @@
--- What a reading pays for its looks: the account of each item.
+-- What pays for the looks of a parse: the budget of each item.
 use Rattle.std.specs.Prelude.{ℕ, zero, suc, ◌≤◌, ◌*◌, ◌||◌, ◌&&◌, if◌then◌else◌, ◌==◌, nat_le, nat_lt, IsTrue, codes}
 use Rattle.std.proofs.Common.{◌≡◌, Bool, true, false, cond, List, [], ◌∷◌, length, Some, None, refl, sym, ◌+◌, ◌-◌, subst, arith}
 use Rattle.demangle_symbol.specs.Primitives.{Name}
@@ -7,7 +7,7 @@ use Rattle.demangle_v0_grammar.specs.LookBudget.{LookCost, IsWithinBudget}
 use Rattle.demangle_v0_grammar.specs.Reading.{Tree, nothing, piece, plain_piece, Place, Outcome, Level, Context, followed_by, folded_by, looks_only, costs_of, text_cost, parse, one_level_deeper, repetitions, angle_if_open, bound_by, unit_outcome, lifetime_at, lifetime_named, letter_of, all_pieces, new_lifetimes, binder_of, binder_at}
 use Rattle.demangle_v0_grammar.proofs.BudgetRules.{IsWithinBudget-more, IsWithinBudget-append}
 
--- the credit that a unit is begun with, and the credit that it leaves
+-- the budget with which a production starts, and the budget that it leaves
 abbrev pub start : Kind → ℕ
 start a_type = 2
 start a_trait_path = 2
@@ -17,27 +17,28 @@ abbrev pub is_some_text : Text → Bool
 is_some_text [] = false
 is_some_text (b ∷ bs) = true
 
--- 1 for what begins units at its own depth
+-- 1 for a production that may start another one at its own depth
 abbrev pub rank : Kind → ℕ
 rank a_pattern = 1
 rank a_trait_path = 1
 rank _ = 0
 
--- units of a rank below r
+-- productions of a rank below r
 abbrev pub is_below : ℕ → Kind → Bool
 is_below zero kind = false
 is_below (suc r) a_pattern = nat_lt 0 r
 is_below (suc r) a_trait_path = nat_lt 0 r
 is_below (suc r) kind = true
 
--- any unit but a dyn trait path
+-- any production except a dyn trait path
 abbrev pub is_closed : Kind → Bool
 is_closed a_trait_path = false
 is_closed kind = true
 
--- The items may run from k looks of credit and end with e. Each byte that is read gives 32, and a word costs 4 for
--- each byte and 4 more. `g` says that a child may come now: at least a byte was handed over since the one before. The
--- units begun before the depth is raised are of a rank below r. Where c, none leaves a `<` open at the end.
+-- Whether the items fit a budget of k looks at the start and e at the end. Each byte that is read adds 32 looks. A
+-- primitive costs 4 for each byte and 4 more. `g` says that a nested production may come now, because at least one byte
+-- was printed since the previous one. The productions that start before the depth is raised are of a rank below r. If c
+-- is true, none leaves a `<` open at the end.
 abbrev pub Fits : (c : Bool) (r e k : ℕ) (g : Bool) → Items → Type 0
 Fits c r e k g done = e ≤ k
 Fits c r e k g invalid = Unit {0}
@@ -69,7 +70,7 @@ pub first : (a b : Bool) → IsTrue (a && b) → IsTrue a
 first true b h = refl
 first false b h = h
 
--- From place i on, of n bytes, the stretches are paid for by the bytes that were read and `from`, and `to` is left.
+-- From place i on, of n bytes, `from` and the bytes that are read pay for the entries, and `to` is left.
 abbrev pub Ends : (n r i from to : ℕ) → List LookCost → Place → Type 0
 Ends n r i from to xs None = IsWithinBudget r (32 * (n + 1 - i) + from) xs 0
 Ends n r i from to xs (Some j) = (i ≤ j) × (j ≤ n) × IsWithinBudget r (32 * (j - i) + from) xs to
@@ -77,7 +78,7 @@ Ends n r i from to xs (Some j) = (i ≤ j) × (j ≤ n) × IsWithinBudget r (32 
 abbrev pub LooksWithin : Bool → (n r i from to : ℕ) → Outcome → Type 0
 LooksWithin plain n r i from to o = Ends n r i from to (costs_of plain o.tree) o.place
 
--- what is handed over while failed costs nothing
+-- what is printed after an error costs nothing
 abbrev pub Free : Bool → ℕ → Tree → Type 0
 Free plain r t = IsWithinBudget r 0 (costs_of plain t) 0
 
@@ -97,7 +98,7 @@ pub free_pieces : (plain : Bool) (r : ℕ) (ts : List Text) (rest : Tree) → Fr
 free_pieces plain r [] rest h = h
 free_pieces plain r (t ∷ ts) rest h = free_piece plain r t (all_pieces ts rest) (free_pieces plain r ts rest h)
 
--- a text before the stretches
+-- a text before the entries
 pub paid_puts : (r a b : ℕ) (t : Text) (xs : List LookCost) → IsWithinBudget r a xs b → IsWithinBudget r a (text_cost t ∷ xs) b
 paid_puts r a b t xs h = (omega arith, IsWithinBudget-more r a (a - 0 + r * length t) b b 0 xs (omega arith) (omega arith) h)
 
@@ -120,7 +121,7 @@ paid_binder plain r a b (suc m) n rest h =
     paid_puts r a b (codes "for<") (costs_of plain (piece (codes "'") after)) (paid_puts r a b (codes "'") (costs_of plain after)
     (paid_pieces plain r a b (letter_of n) last (paid_new plain r a b m (n + 1) (piece (codes "> ") rest) (paid_puts r a b (codes "> ") (costs_of plain rest) h))))
 
--- Once failed.
+-- After an error.
 
 idle_followed : (plain : Bool) (r : ℕ) (o : Outcome) (f : Place → Outcome) → Idle plain r o → Idle plain r (f None) → Idle plain r (followed_by o f)
 idle_followed plain r o f h k = let q : Idle plain r (f o.place) = subst (λ z. Idle plain r (f z)) (sym h.0) k in (q.0, IsWithinBudget-append r 0 0 0 (costs_of plain o.tree) (costs_of plain (f o.place).tree) h.1 q.1)

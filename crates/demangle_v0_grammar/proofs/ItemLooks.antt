@@ -17,16 +17,16 @@ use Rattle.demangle_v0_grammar.proofs.SpelledIsParsed.{there_placed}
 use Rattle.demangle_v0_grammar.proofs.TableCost.{fits}
 use Rattle.demangle_v0_grammar.proofs.ItemBudgets.{start, is_below, is_closed, is_some_text, Fits, Ends, LooksWithin, Idle, idle, idle_closed, free_piece, unheard_pays, paid_puts, paid_binder, paid_pieces}
 
--- The rules for a place and its stretches.
+-- The rules for a place and its entries.
 
--- further on, behind a stretch
+-- at a later place, after an entry
 spent : (n r i k from mid to c w : ℕ) (xs : List LookCost) (x : Place) → i ≤ k → k ≤ n → c ≤ 32 * (k - i) + from → mid + c ≤ 32 * (k - i) + from + r * w →
     Ends n r k mid to xs x → Ends n r i from to (record { bytes = w; looks = c } ∷ xs) x
 spent n r i k from mid to c w xs None l m a e h = (omega (arith, l, m, a), IsWithinBudget-more r (32 * (n + 1 - k) + mid) (32 * (n + 1 - i) + from - c + r * w) 0 0 0 xs (omega (arith, l, m, a, e)) (omega arith) h)
 spent n r i k from mid to c w xs (Some j) l m a e h =
     (omega (arith, l, h.0), h.1, (omega (arith, l, h.0, a), IsWithinBudget-more r (32 * (j - k) + mid) (32 * (j - i) + from - c + r * w) to to 0 xs (omega (arith, l, h.0, a, e)) (omega arith) h.2))
 
--- further on, with the looks c between
+-- at a later place, after c looks
 step : (plain : Bool) (n r i k from mid to c : ℕ) (t : Tree) (x : Place) → i ≤ k → k ≤ n → c + mid ≤ 32 * (k - i) + from →
     Ends n r k mid to (costs_of plain t) x → Ends n r i from to (costs_of plain (looked c t)) x
 step plain n r i k from mid to c t x l m e h = spent n r i k from mid to c 0 (costs_of plain t) x l m (omega (arith, e)) (omega (arith, e)) h
@@ -42,17 +42,17 @@ says_plain : (plain : Bool) (n r i from to : ℕ) (text : Text) (t : Tree) (x : 
 says_plain true n r i from to text t x h = print_str true n r i from from to text t x (omega arith) h
 says_plain false n r i from to text t x h = h
 
--- a larger account, and less of it left
+-- a larger budget, and less of it at the end
 more : (n r i from mid to low : ℕ) (xs : List LookCost) (x : Place) → mid ≤ from → low ≤ to → Ends n r i mid to xs x → Ends n r i from low xs x
 more n r i from mid to low xs None e l h = IsWithinBudget-more r (32 * (n + 1 - i) + mid) (32 * (n + 1 - i) + from) 0 0 0 xs (omega (arith, e)) (omega arith) h
 more n r i from mid to low xs (Some j) e l h = (h.0, h.1, IsWithinBudget-more r (32 * (j - i) + mid) (32 * (j - i) + from) to low 0 xs (omega (arith, e)) (omega (arith, l)) h.2)
 
--- wherever it ends, k is left of an account that has k more than reading all the bytes takes
+-- if the budget is k more than what reading all the bytes takes, k is left at any end
 pub ends_pay : (n r i from to a k : ℕ) (xs : List LookCost) (x : Place) → 32 * (n + 1 - i) + from + k ≤ a → Ends n r i from to xs x → IsWithinBudget r a xs k
 ends_pay n r i from to a k xs None l h = IsWithinBudget-more r (32 * (n + 1 - i) + from) a 0 k k xs (omega (arith, l)) (omega arith) h
 ends_pay n r i from to a k xs (Some j) l h = IsWithinBudget-more r (32 * (j - i) + from) a to k k xs (omega (arith, l, h.0, h.1)) (omega arith) h.2
 
--- one after another
+-- one list after another
 joined : (n r i j from mid to : ℕ) (xs ys : List LookCost) (x : Place) → i ≤ j → j ≤ n →
     IsWithinBudget r (32 * (j - i) + from) xs mid → Ends n r j mid to ys x → Ends n r i from to (xs ++ ys) x
 joined n r i j from mid to xs ys None l m h e =
@@ -78,21 +78,21 @@ then_paid plain n r i from mid to o f h k d = go o.tree o.place h
     go t None h = joined_idle n r i from to (costs_of plain t) (costs_of plain (f None).tree) (f None).place d.0 h d.1
     go t (Some j) h = joined n r i j from mid to (costs_of plain t) (costs_of plain (f (Some j)).tree) (f (Some j)).place h.0 h.1 h.2 (k j h.0 h.1)
 
--- The money for a reference: in front of it, if a child may come now.
+-- The budget for a reference. It is there before the reference if a nested production may come now.
 abbrev pub purse : Bool → ℕ → ℕ
 purse g R = cond g R 0
 
--- the units of a level
+-- the productions of a level
 abbrev pub LevelIsWithinBudget : Bool → (n r R : ℕ) → Bool → Level → Type 0
 LevelIsWithinBudget plain n r R fl l = (kind : Kind) (value : Bool) (m i : ℕ) → i ≤ n → LooksWithin plain n r i (start kind + R) 8 (l fl kind value m i)
 
--- Each depth has its money. A reference takes from it what reading all the bytes takes, and the money of its target.
+-- Each depth has a budget. A reference takes from it what reading all the bytes takes, and the budget of its target.
 abbrev pub Deeper : Bool → (n r : ℕ) → Bool → ℕ → List Level → Type 0
 Deeper plain n r fl R [] = Unit {0}
 Deeper plain n r fl R (l ∷ ls) =
     (S : ℕ) × (S ≤ R) × (fl ≡ true → 32 * (n + 1) + 2 + S ≤ R) × LevelIsWithinBudget plain n r S fl l × LevelIsWithinBudget plain n 0 0 false l × Deeper plain n r fl S ls
 
--- Words.
+-- Primitives.
 
 primitive_paid : {A : Type 0} (plain : Bool) (n r i from mid to low : ℕ) (bs : List ℕ) (q : Read A) (f : A → Place → Outcome) → length bs ≡ n → i ≤ n → Placed (i + low) bs q →
     4 * low + 4 + mid ≤ 32 * low + from →
@@ -114,13 +114,13 @@ fork_paid : (plain : Bool) (n r i from there other to : ℕ) (c : Bool) (f g : P
 fork_paid plain n r i from there other to true f g l m a b h k = step plain n r i (i + 1) from there to 1 (f (Some (i + 1))).tree (f (Some (i + 1))).place (omega arith) (m refl) (omega (arith, a)) (h (m refl))
 fork_paid plain n r i from there other to false f g l m a b h k = step plain n r i i from other to 1 (g (Some i)).tree (g (Some i)).place (omega arith) l (omega (arith, b)) k
 
--- with the text the money is there again
+-- with the text, the budget is there again
 refilled : (r R k : ℕ) (g : Bool) (t : Text) → R ≤ r → k + purse (g || is_some_text t) R ≤ k + purse g R + r * length t
 refilled r R k true t l = omega arith
 refilled r R k false [] l = omega arith
 refilled r R k false (b ∷ bs) l = let h : r ≤ r * length (b ∷ bs) = le-mul_of_pos_right r (omega arith) in omega (arith, h, l)
 
--- the text before a binding brings the money
+-- the text before a binding adds to the budget
 opened_paid : (plain : Bool) (n r R i from to : ℕ) (o : Bool) (t : Tree) (x : Place) → R ≤ r →
     Ends n r i (from + R) to (costs_of plain t) x → Ends n r i from to (costs_of plain (binding_separator o t)) x
 opened_paid plain n r R i from to true t x l h = print_str plain n r i from (from + R) to (codes ", ") t x (omega (arith, l)) h
@@ -187,7 +187,7 @@ pub small : (kind : Kind) → start kind ≤ 2
 small a_path = omega arith
 small _ = omega arith
 
--- a target's tree, with the money for it
+-- the tree of a target, with its budget
 target_paid : (plain : Bool) (n r S m t a k : ℕ) (kind : Kind) (value : Bool) (l : Level) → LevelIsWithinBudget plain n r S true l → t ≤ n → 32 * (n + 1) + 2 + S + k ≤ a →
     IsWithinBudget r a (costs_of plain (node (l true kind value m t).tree nothing)) k
 target_paid plain n r S m t a k kind value l h b c =
@@ -218,7 +218,7 @@ target_within symbol i t j n l e = go (integer_at symbol i) e
     go None q = cc q
     go (Some r) q = inner (nat_lt (r.0 + 1) i) r refl q
 
--- at the head of the turns there are c looks; behind the `E` there are 31 more
+-- c looks are left at the start of the repetitions; after the `E`, 31 more
 repetitions_paid : (plain : Bool) (n r c m : ℕ) (symbol : List ℕ) (f : Place → Outcome) → length symbol ≡ n → 1 ≤ c →
     ((i : ℕ) → i ≤ n → LooksWithin plain n r i (c - 1) c (f (Some i))) → (i : ℕ) → i ≤ n → LooksWithin plain n r i c (c + 31) (repetitions m symbol f (Some i))
 unfolding repetitions
@@ -228,7 +228,7 @@ repetitions_paid plain n r c (suc m) symbol f e o h i l =
     (λ y. (omega arith, y, omega arith))
     (then_paid plain n r i (c - 1) c (c + 31) (f (Some i)) (repetitions m symbol f) (h i l) (λ j _ b. repetitions_paid plain n r c m symbol f e o h j b) (refl, omega arith))
 
--- at the head of bindings there are c looks; a binding ends with so many
+-- c looks are left at the start of bindings; a binding ends with `e`
 bound_paid : (plain : Bool) (n r R c e m : ℕ) (s : Context) (f : Place → Outcome) → length s.symbol ≡ n → R ≤ r → 1 ≤ c → e ≤ c - 1 →
     ((i : ℕ) → i ≤ n → LooksWithin plain n r i (c + 55 + R) c (f (Some i))) → (o : Bool) (i : ℕ) → i ≤ n → LooksWithin plain n r i c e (bound_by m s f o (Some i))
 unfolding bound_by
@@ -357,7 +357,7 @@ level_paid plain r R symbol folds ls fl b d e kind value m i l =
       deeper = d;
     }) i l
 
--- the money of m depths
+-- the budget of m depths
 abbrev pub money : ℕ → ℕ → ℕ
 money n m = (32 * (n + 1) + 2) * m
 
@@ -384,14 +384,14 @@ levels_paid plain r symbol folds (suc m) b =
       q,
     )
 
--- to be printed
+-- if the target is printed
 pub read_paid : (plain : Bool) (r : ℕ) (symbol : List ℕ) (folds : Bool) (kind : Kind) (i d m : ℕ) (value : Bool) → money (length symbol) (max_depth - d) ≤ r → i ≤ length symbol →
     LooksWithin plain (length symbol) r i (start kind + money (length symbol) (max_depth - d)) 8 (read_at symbol folds true kind i d m value)
 unfolding read_at
 read_paid plain r symbol folds kind i d m value b l =
     level_paid plain r (money (length symbol) (max_depth - d)) symbol folds (levels symbol folds (max_depth - d)) true b (levels_paid plain r symbol folds (max_depth - d) b) (levels_hidden plain symbol folds (max_depth - d)) kind value m i l
 
--- not to be printed
+-- if it is not printed
 pub spelling_paid : (plain : Bool) (symbol : List ℕ) (folds : Bool) (kind : Kind) (i d m : ℕ) (value : Bool) → i ≤ length symbol →
     LooksWithin plain (length symbol) 0 i (start kind + 0) 8 (read_at symbol folds false kind i d m value)
 unfolding read_at

@@ -1,4 +1,4 @@
--- Elements of lists: behind the last byte of the symbol none is read, and before it each moves on.
+-- Elements of lists: none is read after the last byte of the symbol, and each one before it ends at a later place.
 use Rattle.std.specs.Prelude.{ℕ, suc, ◌<◌, ◌≤◌, nat_le}
 use Rattle.std.proofs.Common.{◌≡◌, Bool, true, false, List, [], ◌∷◌, length, Some, None, refl, sym, ap, ◌+◌, ◌-◌, subst, arith}
 use Rattle.std.proofs.lemmas.Option.{slice_get_past}
@@ -62,7 +62,7 @@ no_unit b folds ls a_constant pr v n i h = no_tag (λ tag. raise (constant v tag
 no_unit b folds ls a_pattern pr v n i h = no_tag pattern_of (at b folds pr ls n) i h
 no_unit b folds ls a_trait_path pr v n i h = no_fork (is_byte b i (code "B")) _ _ i (no_byte b i (code "B") h) (no_fork (is_byte b i (code "I")) _ _ i (no_byte b i (code "I") h) (no_path (at b folds pr ls n) false i h))
 
--- what lists are of, with so many depths left and lifetimes in force
+-- the elements of lists, with `left` depths left and `n` lifetimes in scope
 pub record Element (b : List ℕ) (folds out : Bool) (left n : ℕ) (p : Items) : Type 0 where
   pub advances : Advances b (parse p (context_at b folds out left n))
   pub beyond : (i : ℕ) → length b ≤ i → (parse p (context_at b folds out left n) (Some i)).place ≡ None
@@ -115,11 +115,11 @@ module _ (b : List ℕ) (folds out : Bool) (left n : ℕ) (l : left ≤ max_dept
           let o = level_of b folds (levels b folds left) out a_trait_path false n i in
           subst (λ x. (bound_by (suc (length b)) at (parse binding_value at) o.is_bracket_open x).place ≡ None) (sym (no_unit b folds (levels b folds left) a_trait_path out false n i h)) (bound_failed (suc (length b)) at (parse binding_value at) o.is_bracket_open)
 
-  -- what a binding is bound to
+  -- the value of a binding
   pub bound_keeps : Keeps b (parse binding_value (context_at b folds out left n))
   bound_keeps i h = within_later b i (i + 1) (parse binding_value (context_at b folds out left n) (Some i)).place (omega arith) (moving b folds out left n binding_value true 1 7 5 true (argument_fits true 0).2 (omega arith) l i h)
 
--- a turn of an element that stands behind a text, and all turns again
+-- an iteration for an element after a text, and all iterations again
 pub element_on : (b : List ℕ) (folds out : Bool) (left n : ℕ) (p : Items) (text : Text) (i : ℕ) → Element b folds out left n p → is_byte b i (code "E") ≡ false →
     let f : Place → Outcome = parse (print text p) (context_at b folds out left n) in
     all_repetitions b f (Some i) ≡ with_tree (looked 1) (followed_by (f (Some i)) (all_repetitions b f))

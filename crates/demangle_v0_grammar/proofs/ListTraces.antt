@@ -1,4 +1,4 @@
--- What is heard of lists, tuples, arguments and lifetimes, up to the next child.
+-- The traces of lists, tuples, arguments and lifetimes, up to the next nested production.
 use Rattle.std.specs.Prelude.{ℕ, codes}
 use Rattle.std.proofs.Common.{◌≡◌, Bool, true, false, List, [], ◌∷◌, ◌++◌, Some, None, refl, ap, ◌∙◌, ◌+◌, append_assoc}
 use Rattle.std.proofs.lemmas.List.{append-nil}
@@ -19,11 +19,11 @@ trace_as xs h = record { events = xs; place = h.place; is_bracket_open = h.is_br
 joined : (out : Bool) (x : Text) (xs ys zs : List Event) → (text_if out x xs ++ ys) ++ zs ≡ text_if out x (xs ++ (ys ++ zs))
 joined out x xs ys zs = ap (λ ws. ws ++ zs) (said_append out x xs ys) ∙ (said_append out x (xs ++ ys) zs ∙ ap (text_if out x) (append_assoc xs ys zs))
 
--- what is heard of h, and then from where it ends, whether it is open or not
+-- the trace h, and then that from the place where h ends, with its bracket open or closed
 abbrev pub followed : Trace → (Place → Trace) → Trace
 followed h k = and_then h (λ j _. k j)
 
--- a child alone, and what follows
+-- a nested production, and what follows
 pub child_followed : (plain out : Bool) (kind : Kind) (value : Bool) (s : Context) (i : Place) (k : Place → Trace) → followed (of plain out (parse (child kind value done) s i)) k ≡ followed (of plain out (unit_outcome s kind value i)) k
 unfolding parse
 child_followed plain out kind value s i k = let o = unit_outcome s kind value i in ap (λ xs. trace_as (xs ++ (k o.place).events) (k o.place)) (append-nil (events plain out o.tree))
@@ -70,7 +70,7 @@ module _ (plain out : Bool) (s : Context) where
   unfolding parse
   argument_type i k e f = rw (e, f) (ap (with_looks (1 ∷ 1 ∷ [])) (child_followed plain out a_type false s (Some i) k))
 
--- one more element, behind a text
+-- one more element, after a text
 module _ (plain folds out : Bool) (b : List ℕ) (left n : ℕ) where
   pub more_on : (text : String) (element p : Items) (i : ℕ) → Element b folds out left n element → is_byte b i (code "E") ≡ false
       → let s = context_at b folds out left n in of plain out (parse (more text element p) s (Some i)) ≡ with_looks (1 ∷ []) (with_texts out (codes text ∷ []) (followed (of plain out (parse element s (Some i))) (λ j. of plain out (parse (more text element p) s j))))
@@ -84,7 +84,7 @@ module _ (plain folds out : Bool) (b : List ℕ) (left n : ℕ) where
       ap (λ (y : Outcome). of plain out (followed_by y (parse p s))) (element_on b folds out left n element (codes text) i el e)
       ∙ ap (λ xs. trace_as (allows 1 ∷ xs) (of plain out z)) (joined out (codes text) (events plain out o.tree) (events plain out w.tree) (events plain out z.tree))
 
-  -- of a tuple, behind its first
+  -- in a tuple, after its first element
   pub second_on : (element p : Items) (i : ℕ) → Element b folds out left n element → is_byte b i (code "E") ≡ false
       → let s = context_at b folds out left n in of plain out (parse (at_end (print_str "," p) (more ", " element p)) s (Some i)) ≡ with_looks (1 ∷ 1 ∷ []) (with_texts out (codes ", " ∷ []) (followed (of plain out (parse element s (Some i))) (λ j. of plain out (parse (more ", " element p) s j))))
   second_on element p i el e = end_on plain out (context_at b folds out left n) (print_str "," p) (more ", " element p) i e ∙ ap (with_looks (1 ∷ [])) (more_on ", " element p i el e)

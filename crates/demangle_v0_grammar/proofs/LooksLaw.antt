@@ -15,7 +15,7 @@ use Rattle.demangle_v0_grammar.proofs.ItemLooks.{ends_pay, money, read_paid, spe
 abbrev pub path_costs : List ℕ → Form → List LookCost
 path_costs symbol form = costs_of form.include_hash (read_at symbol form.fold_arguments true a_path 0 0 0 true).tree
 
--- in a symbol of so many bytes: the looks that each byte printed pays for, and those allowed before the first
+-- in a symbol of that many bytes: the looks that each printed byte pays for, and those allowed before the first
 abbrev pub looks_a_byte : ℕ → ℕ
 looks_a_byte n = 34 * max_depth * (n + 1)
 
@@ -32,7 +32,7 @@ pub printing_looks : (symbol : List ℕ) (form : Form) (k : ℕ) →
     looks_of (take (suc k) (path_costs symbol form)) ≤ 100000 * (bytes_of (take k (path_costs symbol form)) + 1) * (length symbol + 1)
 printing_looks symbol form k = omega (arith, IsWithinBudget-bound (looks_a_byte (length symbol)) (looks_before (length symbol)) 0 (path_costs symbol form) k (printing_pays symbol form))
 
--- the looks of a reading without references, by where it ends
+-- the looks of a parse without references, by the place where it ends
 abbrev pub Costs : ℕ → ℕ → ℕ → Place → Type 0
 Costs n i c None = c ≤ 32 * (n + 1 - i)
 Costs n i c (Some j) = (i ≤ j) × (j ≤ n) × (c + 8 ≤ 32 * (j - i))
@@ -65,7 +65,7 @@ pub accepting_costs : (symbol : List ℕ) → accepting_looks symbol ≤ 32 * (l
 unfolding accepting_looks
 accepting_costs symbol = both_cost symbol (looks_in (read_at symbol false false a_path 0 0 0 true)) (read_at symbol false false a_path 0 0 0 true).place (costs symbol 0 (omega arith))
 
--- any unit, at any depth
+-- any production, at any depth
 pub unit_looks : (symbol : List ℕ) (folds plain : Bool) (kind : Kind) (i d m : ℕ) (value : Bool) (k : ℕ) → i ≤ length symbol → d ≤ max_depth →
     looks_of (take (suc k) (costs_of plain (read_at symbol folds true kind i d m value).tree)) ≤ 34 * (length symbol + 1) * (max_depth + 1 - d) * (bytes_of (take k (costs_of plain (read_at symbol folds true kind i d m value).tree)) + 1)
 unit_looks symbol folds plain kind i d m value k l b =
@@ -83,7 +83,7 @@ unit_looks symbol folds plain kind i d m value k l b =
     sum : (n e w looks : ℕ) → looks ≤ 32 * (n + 1) + (start kind + money n e) + 34 * (n + 1) * e * w → looks ≤ 34 * (n + 1) * (e + 1) * (w + 1)
     sum n e w looks y = omega (arith, small kind, y)
 
--- while failed
+-- after an error
 pub failed_looks : (p : Items) (s : Context) (plain : Bool) → looks_of (costs_of plain (parse p s None).tree) ≡ 0
 failed_looks p s plain =
     let q : Idle plain 0 (parse p s None) = idle plain 0 p s in
@@ -98,7 +98,7 @@ bytes_unheard : (xs : List LookCost) → bytes_of (looks_only xs) ≡ 0
 bytes_unheard [] = refl
 bytes_unheard (x ∷ xs) = omega (arith, bytes_unheard xs)
 
--- the stretches hand over the bytes of the pieces
+-- the entries print the bytes of the pieces
 pub tree_bytes : (plain : Bool) (t : Tree) → bytes_of (costs_of plain t) ≡ size (pieces plain t)
 tree_bytes plain nothing = refl
 tree_bytes plain (piece t rest) = omega (arith, tree_bytes plain rest)

@@ -1,4 +1,4 @@
--- What is spelled without a reference, and with no lifetime but that of index 0, hands over no stop.
+-- A production that is spelled without a reference, and with no lifetime except that of index 0, prints no error.
 use Rattle.std.specs.Prelude.{ℕ, ◌≤◌}
 use Rattle.std.proofs.Common.{Bool, true, false, List, length}
 use Rattle.demangle_v0_grammar.specs.Items.{Kind}

@@ -1,4 +1,4 @@
--- Reading accepts the bytes exactly where they are spelled so.
+-- Parsing accepts exactly the bytes that the grammar spells.
 use Rattle.std.specs.Prelude.{ℕ, ◌≤◌, ◌⊎◌, ◌↔◌}
 use Rattle.std.proofs.Common.{◌≡◌, Bool, true, false, cond, List, length, Some, None, refl, sym, ◌∙◌, ap, subst, arith, inl, inr}
 use Rattle.demangle_symbol.specs.Primitives.{then_if_some}
@@ -20,7 +20,7 @@ path_spelled : (symbol : List ℕ) (i j : ℕ) → i ≤ length symbol → IsPat
 unfolding unit_end
 path_spelled symbol i j b e = spells_read symbol false false a_path true i j 0 0 (omega arith) b e
 
--- the place behind the second path, if one begins
+-- the place after the second path, if there is one
 second : List ℕ → ℕ → Place
 second symbol j = cond (starts_second_path symbol j) (unit_end symbol a_path j 0) (Some j)
 
@@ -49,15 +49,15 @@ pub all_accepted : (symbol : List ℕ) (k : ℕ) → IsPaths symbol k → suffix
 unfolding suffix_place second
 all_accepted symbol k (j, p, q) = subst (λ o. then_if_some o (second symbol) ≡ Some k) (sym (path_spelled symbol 0 j (omega arith) p)) (to_second symbol j k (grows true 0 8 0 true (fits a_path true) p (omega arith)).1 q)
 
--- the suffix begins at one place at most
+-- the suffix starts at one place at most
 pub one_suffix : (symbol : List ℕ) (j k : ℕ) → IsPaths symbol j → IsPaths symbol k → j ≡ k
 one_suffix symbol j k p q = some_one (sym (all_accepted symbol j p) ∙ all_accepted symbol k q)
   where
     some_one : {x y : ℕ} → Some x ≡ Some y → x ≡ y
     some_one e = cc e
 
--- Parsing without output ends exactly where the grammar ends the production. Parsing with output does so if each lifetime is in
--- scope, except for lifetimes in folded arguments.
+-- Parsing without output ends exactly where the grammar ends the production. Parsing with output does so if each
+-- lifetime is in scope, except for lifetimes in folded arguments.
 pub reading_is_spelling : (symbol : List ℕ) (folds : Bool) (kind : Kind) (value : Bool) (i j d m : ℕ) → d ≤ max_depth → i ≤ length symbol → ((read_at symbol folds false kind i d m value).place ≡ Some j) ↔ Spells symbol freely d m (items kind value) i j
 reading_is_spelling symbol folds kind value i j d m h b = (read_spelt symbol folds false kind value i j d m h, spells_read symbol folds false kind value i j d m h b)
 
@@ -70,7 +70,7 @@ accepted_is_spelled inner k = (accepted inner k, all_accepted inner k)
 none_some : {x : ℕ} → None ≡ Some x → ⊥
 none_some e = cc e
 
--- what is spelled and not read when printed has a lifetime that names none
+-- bytes that are spelled, and fail if they are printed, have a lifetime that names none
 pub printing_ends : (symbol : List ℕ) (folds : Bool) (kind : Kind) (value : Bool) (i j d m : ℕ) → d ≤ max_depth → i ≤ length symbol → Spells symbol freely d m (items kind value) i j →
     ((read_at symbol folds true kind i d m value).place ≡ Some j) ⊎ (((read_at symbol folds true kind i d m value).place ≡ None) × (Spells symbol (rule true folds) d m (items kind value) i j → ⊥))
 printing_ends symbol folds kind value i j d m h b a = go (read_at symbol folds true kind i d m value).place refl

@@ -1,4 +1,5 @@
--- Where a reading ends, so it is spelled: what is to be printed by the rule that lifetimes are named.
+-- If a parse ends, the grammar spells its bytes. If it prints, they are spelled by the rule that requires named
+-- lifetimes.
 use Rattle.std.specs.Prelude.{ℕ, zero, suc, ◌<◌, ◌≤◌, ◌==◌, ◌&&◌, nat_le, codes, slice_get}
 use Rattle.std.proofs.Common.{◌≡◌, Bool, true, false, cond, List, [], ◌∷◌, length, Option, Some, None, refl, sym, ◌∙◌, ◌+◌, ◌-◌, subst, arith}
 use Rattle.std.proofs.lemmas.Bool.{leb-true, eqb-true}
@@ -38,7 +39,7 @@ SpeltBelow symbol folds d (l ∷ ls) = (d < max_depth) × SpeltAt symbol folds (
 some_same : {x y : ℕ} → Some x ≡ Some y → x ≡ y
 some_same e = cc e
 
--- what goes on from a place that was reached
+-- the rest, after a place that was reached
 onward : {X : Type 0} (f : Place → Outcome) (x : Place) (j : ℕ) → (f None).place ≡ None → (f x).place ≡ Some j → ((k : ℕ) → x ≡ Some k → (f (Some k)).place ≡ Some j → X) → X
 onward f None j h e g = absurd (cc (sym h ∙ e))
 onward f (Some k) j h e g = g k refl e
@@ -55,7 +56,7 @@ forked_spelt : {X : Type 0} (c : Bool) (f g : Place → Outcome) (i j : ℕ) →
 forked_spelt true f g i j e h k = h refl e
 forked_spelt false f g i j e h k = k refl e
 
--- where the turns end and it goes on, so they are spelled
+-- if the repetitions end and the rest ends, they are spelled
 repetitions_spelt : (n : ℕ) (symbol : List ℕ) (folds c : Bool) (d m : ℕ) (p q : Items) (f : Place → Outcome) → Spelt symbol folds c d m p (λ i. f (Some i)) → (i k j : ℕ) → (repetitions n symbol f (Some i)).place ≡ Some k → Spells symbol (rule c folds) d m q k j → Spells symbol (rule c folds) d m (until_end p q) i j
 unfolding repetitions
 repetitions_spelt zero symbol folds c d m p q f h i k j e a = absurd (cc e)
@@ -64,7 +65,7 @@ repetitions_spelt (suc n) symbol folds c d m p q f h i k j e a =
     (λ u r. over_ u (subst (λ x. Spells symbol (rule c folds) d m q x j) (sym (some_same r)) a))
     (λ u r. onward (repetitions n symbol f) (f (Some i)).place k refl r (λ x y z. repetition_ u (h i x y) (repetitions_spelt n symbol folds c d m p q f h x k j z a)))
 
--- where bindings end, so they are spelled
+-- if bindings end, they are spelled
 bound_spelt : (n : ℕ) (s : Context) (c : Bool) (d m : ℕ) (p : Items) (f : Place → Outcome) → Spelt s.symbol s.folds c d m p (λ i. f (Some i)) → (o x : Bool) (i j : ℕ) → (bound_by n s f o (Some i)).place ≡ Some j → Spells s.symbol (rule c s.folds) d m (bindings x p) i j
 unfolding bound_by
 bound_spelt zero s c d m p f h o x i j e = absurd (cc e)
@@ -88,7 +89,7 @@ may_refer true true = tt
 may_refer true false = tt
 may_refer false folds = tt
 
--- where a lifetime ends, it may be named
+-- if a lifetime ends, it may be named
 lifetime_spelt : {X : Type 0} (folds c : Bool) (m k i : ℕ) (x : Place) → (lifetime_at c m k (Some i)).place ≡ x → (MayName (rule c folds) m k → x ≡ Some i → X) → (x ≡ None → X) → X
 lifetime_spelt folds false m k i x e g h = g tt (sym e)
 lifetime_spelt {X} folds true m k i x e g h = go (k == 0) (nat_le k m) (λ z. let w : k ≡ 0 = eqb-true k 0 z in omega (arith, w)) (λ z. leb-true k m z) e
@@ -98,7 +99,7 @@ lifetime_spelt {X} folds true m k i x e g h = go (k == 0) (nat_le k m) (λ z. le
     go false true p q e = g (names_rule folds m k (q refl)) (sym e)
     go false false p q e = h (sym e)
 
--- the bindings behind a dyn trait path
+-- the bindings after a dyn trait path
 dyn_spelt : {X : Type 0} (n : ℕ) (s : Context) (f : Place → Outcome) (a : Outcome) (j : ℕ) → (followed_open a (bound_by n s f)).place ≡ Some j → ((k : ℕ) → a.place ≡ Some k → (bound_by n s f a.is_bracket_open (Some k)).place ≡ Some j → X) → X
 dyn_spelt n s f a j e g = onward (bound_by n s f a.is_bracket_open) a.place j (bound_failed n s f a.is_bracket_open) e g
 

@@ -1,4 +1,4 @@
--- What is heard of paths, patterns, dyn trait paths and references, up to their next child.
+-- The traces of paths, patterns, dyn trait paths and references, up to their next nested production.
 use Rattle.std.specs.Prelude.{ℕ, codes}
 use Rattle.std.proofs.Common.{◌≡◌, Bool, true, false, List, [], ◌∷◌, length, Some, None, refl, ap, ◌∙◌, ◌+◌, ◌-◌, ◌*◌}
 use Prim.Native.Char.{code}

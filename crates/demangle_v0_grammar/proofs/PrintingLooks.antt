@@ -1,4 +1,4 @@
--- What is looked at while a symbol prints: an account pays for it.
+-- A budget pays for the looks that are made while a symbol prints.
 use Rattle.std.specs.Prelude.{ℕ, ◌*◌}
 use Rattle.std.proofs.Common.{◌≡◌, ◌+◌, ◌-◌, Bool, true, false, List, [], ◌∷◌, ◌++◌, length, refl, ap, sym, ◌∙◌, subst, append_assoc, arith}
 use Rattle.std.proofs.lemmas.List.{map-append, append-nil}
@@ -8,7 +8,7 @@ use Rattle.demangle_v0_grammar.specs.Reading.{Tree, nothing, piece, plain_piece,
 use Rattle.demangle_v0_grammar.proofs.BudgetRules.{IsWithinBudget-more}
 use Rattle.demangle_v0_grammar.proofs.PrintingSteps.{weighed}
 
--- Whatever pays for the stretches of a tree pays for its events.
+-- A budget that pays for the costs of a tree pays for its events.
 
 weighed_append : (xs ys : List Event) → weighed (xs ++ ys) ≡ weighed xs ++ weighed ys
 weighed_append xs ys = map-append _ xs ys
@@ -20,7 +20,7 @@ unheard_twice : (xs : List LookCost) → looks_only (looks_only xs) ≡ looks_on
 unheard_twice [] = refl
 unheard_twice (x ∷ xs) = ap (λ (zs : List LookCost). looks x.looks ∷ zs) (unheard_twice xs)
 
--- a stretch that costs nothing and hands nothing over
+-- an entry without looks and without text
 free : (r a c : ℕ) (xs : List LookCost) → IsWithinBudget r (a - 0 + r * 0) xs c → IsWithinBudget r a xs c
 free r a c xs h = IsWithinBudget-more r (a - 0 + r * 0) a c c 0 xs (omega arith) (omega arith) h
 
@@ -30,7 +30,7 @@ split r a c xs ys zs all e h = subst (λ ws. IsWithinBudget r a ws c) (ap (λ ws
 joined : (r a c : ℕ) (xs ys : List Event) (zs : List LookCost) → IsWithinBudget r a (weighed xs ++ (weighed ys ++ zs)) c → IsWithinBudget r a (weighed (xs ++ ys) ++ zs) c
 joined r a c xs ys zs h = subst (λ ws. IsWithinBudget r a ws c) (sym (ap (λ ws. ws ++ zs) (weighed_append xs ys) ∙ append_assoc (weighed xs) (weighed ys) zs)) h
 
--- of what is only read
+-- for a parse without output
 pays_quiet : (r c : ℕ) (plain : Bool) (t : Tree) (ys zs : List LookCost) → ((a : ℕ) → IsWithinBudget r a ys c → IsWithinBudget r a zs c) → (a : ℕ) → IsWithinBudget r a (looks_only (costs_of plain t) ++ ys) c → IsWithinBudget r a (weighed (events plain false t) ++ zs) c
 pays_quiet r c plain nothing ys zs f a h = f a h
 pays_quiet r c plain (piece x rest) ys zs f a h = pays_quiet r c plain rest ys zs f a (free r a c _ h.1)
@@ -47,7 +47,7 @@ pays_quiet r c plain (unprinted inside rest) ys zs f a h =
     (split r a c (looks_only (costs_of plain inside)) (looks_only (costs_of plain rest)) ys _ (unheard_append (looks_only (costs_of plain inside)) (costs_of plain rest) ∙ ap (λ ws. ws ++ looks_only (costs_of plain rest)) (unheard_twice (costs_of plain inside))) h))
 pays_quiet r c plain _ ys zs f a h = f a (free r a c ys h.1)
 
--- of what is printed
+-- for a parse that prints
 pays_events : (r c : ℕ) (plain : Bool) (t : Tree) (ys zs : List LookCost) → ((a : ℕ) → IsWithinBudget r a ys c → IsWithinBudget r a zs c) → (a : ℕ) → IsWithinBudget r a (costs_of plain t ++ ys) c → IsWithinBudget r a (weighed (events plain true t) ++ zs) c
 pays_events r c plain nothing ys zs f a h = f a h
 pays_events r c plain (piece x rest) ys zs f a h = (h.0, pays_events r c plain rest ys zs f (a - 0 + r * length x) h.1)

@@ -1,4 +1,4 @@
--- What is heard, as pieces and as stretches that an account pays.
+-- A trace as pieces, and as costs that a budget pays for.
 use Rattle.std.specs.Prelude.{map}
 use Rattle.std.proofs.Common.{◌≡◌, ℕ, Bool, true, false, List, [], ◌∷◌, ◌++◌, refl, ap, ◌∙◌}
 use Rattle.demangle_v0_grammar.specs.LookBudget.{LookCost}
@@ -18,7 +18,7 @@ quiet_plain : (plain : Bool) (t : Text) (xs : List Event) → texts_in (text_if 
 quiet_plain true t xs = refl
 quiet_plain false t xs = refl
 
--- what is only read hands nothing over
+-- a parse without output prints nothing
 pub quiet_events : (plain : Bool) (t : Tree) → texts_in (events plain false t) ≡ []
 quiet_events plain (piece x rest) = quiet_events plain rest
 quiet_events plain (plain_piece x rest) = quiet_plain plain x (events plain false rest) ∙ quiet_events plain rest
@@ -31,7 +31,7 @@ shown_plain : (plain : Bool) (t : Text) (rest : Tree) (xs : List Event) → text
 shown_plain true t rest xs e = ap (λ (zs : List Text). t ∷ zs) e
 shown_plain false t rest xs e = e
 
--- what is printed hands over the tree's pieces
+-- a parse that prints prints the pieces of the tree
 pub shown_events : (plain : Bool) (t : Tree) → texts_in (events plain true t) ≡ pieces plain t
 shown_events plain (piece x rest) = ap (λ (zs : List Text). x ∷ zs) (shown_events plain rest)
 shown_events plain (plain_piece x rest) = shown_plain plain x rest (events plain true rest) (shown_events plain rest)
@@ -40,7 +40,7 @@ shown_events plain (looked k rest) = shown_events plain rest
 shown_events plain (unprinted inside rest) = shown_append (events plain false inside) (events plain true rest) ∙ (ap (λ xs. xs ++ texts_in (events plain true rest)) (quiet_events plain inside) ∙ shown_events plain rest)
 shown_events plain _ = refl
 
--- the same as stretches
+-- the same as costs
 abbrev pub weighed : List Event → List LookCost
 weighed xs = map cost_of xs
 

@@ -1,4 +1,4 @@
--- The bound on turns has no effect, where each reads a byte.
+-- The bound on repetitions has no effect if each one reads a byte.
 use Rattle.std.specs.Prelude.{ℕ, zero, suc, ◌<◌, ◌≤◌}
 use Rattle.std.proofs.Common.{◌≡◌, Bool, true, false, List, length, Some, None, refl, ap, ◌+◌, ◌-◌, ◌*◌, sym, subst, arith}
 use Prim.Native.Char.{code}
@@ -41,11 +41,11 @@ more_repetitions (suc j) (suc k) symbol f a (Some i) h g =
     more_repetitions j k symbol f a (f (Some i)).place (covers_next symbol j i (f (Some i)).place w h.1) (covers_next symbol k i (f (Some i)).place w g.1) in
     fork_same (is_byte symbol i (code "E")) at_place at_place (λ m. followed_by (f m) (repetitions j symbol f)) (λ m. followed_by (f m) (repetitions k symbol f)) i (λ _. refl) (λ _. ap (λ o. with_tree (node (f (Some i)).tree) o) more)
 
--- all turns
+-- all repetitions
 abbrev pub all_repetitions : List ℕ → (Place → Outcome) → Place → Outcome
 all_repetitions symbol f = repetitions (suc (length symbol)) symbol f
 
--- one of them, and all again
+-- one repetition, and all further ones
 pub repetitions_on : (symbol : List ℕ) (f : Place → Outcome) (i : ℕ) → Advances symbol f → i ≤ length symbol → is_byte symbol i (code "E") ≡ false →
     all_repetitions symbol f (Some i) ≡ with_tree (looked 1) (followed_by (f (Some i)) (all_repetitions symbol f))
 unfolding repetitions
@@ -55,7 +55,7 @@ repetitions_on symbol f i a l e =
     (ap (λ o. with_tree (looked 1) (with_tree (node (f (Some i)).tree) o)) (more_repetitions (length symbol) (suc (length symbol)) symbol f a (f (Some i)).place
     (covers_next symbol (length symbol) i (f (Some i)).place w (omega arith)) (covers_next symbol (suc (length symbol)) i (f (Some i)).place w (omega arith))))
 
--- items that end with more credit than they began with move
+-- items that end with a larger budget than they started with end at a later place
 pub advances : (p : Items) (s : Context) (d : ℕ) (c : Bool) (r e k : ℕ) (g : Bool) → Fits c r e k g p → k < e → SpeltAt s.symbol s.folds d s.here → SpeltBelow s.symbol s.folds d s.deeper → Advances s.symbol (parse p s)
 advances p s d c r e k g f m h b i l = go (parse p s (Some i)).place refl
   where
@@ -63,7 +63,7 @@ advances p s d c r e k g f m h b i l = go (parse p s (Some i)).place refl
     go None q = tt
     go (Some j) q = let y = grows c r e k g f (spelt p s d h b i j q) l in (omega (arith, m, y.0, y.2), y.1)
 
--- what a binding is bound to ends no earlier than it begins
+-- the value of a binding ends no earlier than it starts
 abbrev pub Keeps : List ℕ → (Place → Outcome) → Type 0
 Keeps symbol f = (i : ℕ) → i ≤ length symbol → Within symbol i (f (Some i)).place
 
@@ -93,7 +93,7 @@ more_bindings (suc j) (suc k) s f a o (Some i) h l =
 abbrev pub all_bindings : Context → (Place → Outcome) → Bool → Place → Outcome
 all_bindings s f = bound_by (suc (length s.symbol)) s f
 
--- one of them, and all again
+-- one binding, and all further ones
 pub bindings_on : (s : Context) (f : Place → Outcome) (o : Bool) (i k : ℕ) (a : Name) → Keeps s.symbol f → is_byte s.symbol i (code "p") ≡ true → identifier_at s.symbol (i + 1) ≡ Some (a, k) →
     all_bindings s f o (Some i) ≡ with_tree (looked 1) (with_tree (binding_separator o) (with_tree (looked (4 * (k - (i + 1) + 1))) (with_tree (name_equals a) (followed_by (f (Some k)) (all_bindings s f true)))))
 unfolding bound_by

@@ -1,6 +1,6 @@
--- Symbols and the pieces that they hand over, with `¦` behind each piece that is not empty. The pieces are those of the
--- Rust crate rustc-demangle 0.1.28, but that numbers of up to 32 nibbles are decimal and that literals past ASCII go by the
--- general category and Grapheme_Extend.
+-- Symbols and their pieces, with `¦` after each piece that is not empty. The pieces are those of the Rust crate
+-- rustc-demangle 0.1.28, with two differences: numbers of up to 32 nibbles are decimal, and literals past ASCII are
+-- escaped by the general category and Grapheme_Extend.
 use Rattle.std.specs.Prelude.{◌≡◌, ℕ, Bool, true, false, if◌then◌else◌, ◌&&◌, nat_le, nat_eq, List, [], ◌∷◌, ◌++◌, Option, Some, None, codes, refl, encode_utf8_all, map}
 use Rattle.std.specs.List.{list_all}
 use Rattle.std.specs.Fmt.{digits}
@@ -17,12 +17,12 @@ use Rattle.demangle_symbol.specs.Literals.{literal, string_of}
 use Rattle.demangle_v0_grammar.specs.Reading.{Form, form, repetitions, bound_by, parse, level_of, levels, read_at, path_texts, unit_end, suffix_place}
 use Rattle.demangle_v0_grammar.specs.V0.{v0_in, v0_of}
 
--- each text that is not empty, with `¦` behind it
+-- each text that is not empty, with `¦` after it
 abbrev marked : List (List ℕ) → List ℕ
 marked [] = []
 marked (t ∷ ts) = (if is_empty t then [] else t ++ (194 ∷ 166 ∷ [])) ++ marked ts
 
--- what a row says that it hands over
+-- the pieces that a row expects
 unfoldable pub marked_text : String → List ℕ
 unfolding encode_utf8
 marked_text s = encode_utf8_all (codes s)
@@ -32,12 +32,12 @@ abbrev is_allowed : List ℕ → Bool
 is_allowed [] = true
 is_allowed (b ∷ bs) = nat_eq b 46 && list_all (λ c. nat_le 33 c && nat_le c 126) bs
 
--- what a symbol hands over, and its suffix
+-- the pieces of a symbol, and its suffix
 unfoldable pub prints_text : Form → String → Option (List ℕ)
 unfolding digits encode_utf8 chars is_utf8 ucd_category ucd_derived is_byte number byte_at namespace_at integer_at optional_at backref_at identifier_at nibbles_at hex_number number_of length_end length_value tail_len bias_after adapted_bias deltas insertions puny name_pieces literal string_of repetitions bound_by parse level_of levels read_at path_texts unit_end suffix_place v0_in v0_of
 prints_text form symbol = then_if_some (v0_of (codes symbol)) (λ v. if is_allowed v.1 then Some (marked (path_texts v.0 form ++ v.1 ∷ [])) else None)
 
--- a symbol, and what it hands over
+-- a symbol, and its pieces
 data Row : Type 0 where
   -- the same in both forms
   Alike : String → String → Row
@@ -63,7 +63,7 @@ folds_in (FoldedForms _ _ _) = true
 folds_in (FoldedRefused _) = true
 folds_in _ = false
 
--- what the symbol hands over in both forms, and what the row says of it
+-- the pieces of the symbol in both forms, and those that the row expects
 unfoldable shown : Row → Option (List ℕ) × Option (List ℕ)
 unfolding prints_text
 shown row = (prints_text (form true (folds_in row)) (symbol_of row), prints_text (form false (folds_in row)) (symbol_of row))
@@ -151,7 +151,7 @@ constants_hand_over : PutsPaid (
 unfolding prints_text marked_text shown wanted
 constants_hand_over = refl
 
--- Marks, faults and refusals.
+-- Fixed texts, errors, and symbols that are rejected.
 faults_hand_over : PutsPaid (
     Forms "_RCs_3foo" "foo¦[¦1¦]¦" "foo¦" ∷
     Alike "_RCu9bcher_kva" "b¦ü¦c¦h¦e¦r¦" ∷
@@ -287,7 +287,7 @@ open_dyn_traits_hand_over : PutsPaid (
 unfolding prints_text marked_text shown wanted
 open_dyn_traits_hand_over = refl
 
--- A fault at each byte of a dyn type.
+-- An error at each byte of a dyn type.
 faulty_dyn_types_hand_over : PutsPaid (
     Alike "_RIC1~B2_uE" "~¦::¦<¦{invalid syntax}¦, ¦()¦>¦" ∷
     Alike "_RIC2D~B2_uE" "D~¦::¦<¦dyn ¦{invalid syntax}¦{invalid syntax}¦, ¦()¦>¦" ∷
@@ -307,7 +307,7 @@ faulty_dyn_types_hand_over : PutsPaid (
 unfolding prints_text marked_text shown wanted
 faulty_dyn_types_hand_over = refl
 
--- A fault at each byte of other types.
+-- An error at each byte of other types.
 faulty_types_hand_over : PutsPaid (
     Alike "_RIC2F~B2_uE" "F~¦::¦<¦fn(¦{invalid syntax}¦)¦ -> ¦?¦, ¦()¦>¦" ∷
     Alike "_RIC3FK~B2_uE" "FK~¦::¦<¦{invalid syntax}¦, ¦()¦>¦" ∷
@@ -354,7 +354,7 @@ faulty_types_hand_over : PutsPaid (
 unfolding prints_text marked_text shown wanted
 faulty_types_hand_over = refl
 
--- A fault at each byte of constants.
+-- An error at each byte of constants.
 faulty_constants_hand_over : PutsPaid (
     Alike "_RIC1~KB2_uE" "~¦::¦<¦{invalid syntax}¦, ¦()¦>¦" ∷
     Alike "_RIC2V~KB2_uE" "V~¦::¦<¦{¦{invalid syntax}¦?¦, ¦()¦>¦" ∷
@@ -401,7 +401,7 @@ faulty_constants_hand_over : PutsPaid (
 unfolding prints_text marked_text shown wanted
 faulty_constants_hand_over = refl
 
--- A fault at each byte of paths.
+-- An error at each byte of paths.
 faulty_paths_hand_over : PutsPaid (
     Alike "_RYC1~B2_" "<¦~¦ as ¦{invalid syntax}¦>¦" ∷
     Alike "_RYC2N~B2_" "<¦N~¦ as ¦{invalid syntax}¦>¦" ∷
@@ -435,7 +435,7 @@ faulty_paths_hand_over : PutsPaid (
 unfolding prints_text marked_text shown wanted
 faulty_paths_hand_over = refl
 
--- A boundary each: the last two categories of separators, damping, the last letter of a lifetime, a suffix.
+-- One boundary each: the last two categories of separators, damping, the last letter of a lifetime, a suffix.
 boundaries_hand_over : PutsPaid (
     Alike "_RIC0Kc2028_E" "::¦<¦'¦\\¦u¦{¦2¦0¦2¦8¦}¦'¦>¦" ∷
     Alike "_RIC0Kc2029_E" "::¦<¦'¦\\¦u¦{¦2¦0¦2¦9¦}¦'¦>¦" ∷
@@ -467,7 +467,7 @@ escaped_characters_hand_over : PutsPaid (
 unfolding prints_text marked_text shown wanted
 escaped_characters_hand_over = refl
 
--- Braces: none around the length of an array, but around the bounds of a range and what a binding binds.
+-- Braces: none around the length of an array; they are around the bounds of a range and the value of a binding.
 braces_hand_over : PutsPaid (
     Alike "_RMC0Ahe61_" "<¦[¦u8¦; ¦*¦\"¦a¦\"¦]¦>¦" ∷
     Alike "_RMC0AhRp" "<¦[¦u8¦; ¦&¦_¦]¦>¦" ∷
@@ -489,8 +489,8 @@ field_disambiguators_hand_over : PutsPaid (
 unfolding prints_text marked_text shown wanted
 field_disambiguators_hand_over = refl
 
--- Folded arguments. The pieces are those of the same crate with a change: it reads the arguments of a path without printing
--- them, as it reads an impl path, and prints `_` for them.
+-- Folded arguments. The pieces are those of the same crate with a change: it reads the arguments of a path without
+-- printing them, as it reads an impl path, and prints `_` for them.
 folded_arguments_hand_over : PutsPaid (
     -- In value position, and not in value position.
     Folded "_RINvC3foo3barhE" "foo¦::¦bar¦::¦<¦_¦>¦" ∷
@@ -508,7 +508,7 @@ folded_arguments_hand_over : PutsPaid (
     Folded "_RINvC1a1bINtC1c1dINtC1e1fhEEINtC1g1hlEE" "a¦::¦b¦::¦<¦_¦>¦" ∷
     Folded "_RIIC1ahElE" "a¦::¦<¦_¦>¦::¦<¦_¦>¦" ∷
     Folded "_RIC0WmRm1_m9_E" "::¦<¦_¦>¦" ∷
-    -- A lifetime that is not in scope, and a reference to a bad target: neither is looked up.
+    -- A lifetime that is not in scope, and a reference to a bad target: neither is examined.
     Folded "_RINvC1a1bL0_E" "a¦::¦b¦::¦<¦_¦>¦" ∷
     Folded "_RINvC1a1bRL0_hE" "a¦::¦b¦::¦<¦_¦>¦" ∷
     Folded "_RNvMC3fooINtC1a1bL0_hE1c" "<¦a¦::¦b¦<¦_¦>¦>¦::¦c¦" ∷

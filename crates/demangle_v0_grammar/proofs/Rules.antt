@@ -1,10 +1,10 @@
--- What is spelled by a rule is spelled by a laxer one.
+-- Bytes that are spelled by a rule are spelled by a laxer one.
 use Rattle.std.specs.Prelude.{ℕ}
 use Rattle.std.proofs.Common.{◌≡◌, List, refl, sym, subst, arith}
 use Rattle.demangle_v0_grammar.specs.Items.{Items}
 use Rattle.demangle_v0_grammar.specs.Spelling.{Rule, freely, named, named_outside, simple, of_arguments, MayName, MayRefer, Spells, end_, say_, plain_, byte_, namespace_, integer_, optional_, identifier_, nibbles_, peek_, there, other, sound_, over_, repetition_, raise_, unit_, child_, skip_, folded_, target_, lifetime_, binder_, opens_, dyn_, past_, bound_}
 
--- one rule asks no more than another
+-- one rule requires no more than another
 pub record IsLaxer (r s : Rule) : Type 0 where
   pub names : (m k : ℕ) → MayName r m k → MayName s m k
   pub refers : MayRefer r → MayRefer s
@@ -81,8 +81,8 @@ simply_outside = record { names = λ m k h. omega (arith, h); refers = λ h. abs
 pub simply : IsLaxer simple named
 simply = record { names = λ m k h. omega (arith, h); refers = λ h. absurd h; inside = λ m k h. omega (arith, h) }
 
-pub named_freely : {symbol : List ℕ} {d m : ℕ} {p : Items} {i j : ℕ} → Spells symbol named d m p i j → Spells symbol freely d m p i j
-named_freely a = relaxed freely (freely_laxest named) a
+pub spelled_freely : {symbol : List ℕ} {r : Rule} {d m : ℕ} {p : Items} {i j : ℕ} → Spells symbol r d m p i j → Spells symbol freely d m p i j
+spelled_freely {r = r} a = relaxed freely (freely_laxest r) a
 
 pub simply_named : {symbol : List ℕ} {d m : ℕ} {p : Items} {i j : ℕ} → Spells symbol simple d m p i j → Spells symbol named d m p i j
 simply_named a = relaxed named simply a

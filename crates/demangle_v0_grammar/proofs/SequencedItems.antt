@@ -1,4 +1,4 @@
--- Items that go on with others where they are done.
+-- Items followed by others at their end.
 use Rattle.std.specs.Prelude.{suc}
 use Rattle.std.proofs.Common.{◌≡◌, Bool, true, false, [], ◌∷◌, length, Some, None, refl, sym, ap, ◌∙◌, ◌+◌, append_assoc}
 use Rattle.demangle_v0_grammar.specs.Items.{Text, Items, done, print, next, if_ok, until_end, unit, child}
@@ -15,7 +15,7 @@ extended r (unit p q) = unit p (extended r q)
 extended r (child k v p) = child k v (extended r p)
 extended r p = p
 
--- no fault ends these items
+-- no error ends these items
 abbrev pub IsExtended : Items → Type 0
 IsExtended done = Unit {0}
 IsExtended (print t p) = IsExtended p

@@ -1,4 +1,4 @@
--- A path that is read and not printed: its looks within the account of what is printed.
+-- A path that is parsed and not printed: its looks are within the budget of what is printed.
 use Rattle.std.specs.Prelude.{ℕ, ◌+◌}
 use Rattle.std.proofs.Common.{◌≡◌, Bool, false, List, [], ◌∷◌, ◌++◌, Some, None, refl, ap, ◌∙◌}
 use Rattle.demangle_v0_grammar.specs.LookTotals.{total}
@@ -9,7 +9,7 @@ use Rattle.demangle_v0_grammar.specs.LookTotals.{allowed_in}
 use Rattle.demangle_v0_grammar.proofs.PrintingSteps.{quiet_events}
 use Rattle.demangle_v0_grammar.proofs.UnprintedTraces.{silent_unit}
 
--- the looks that are allowed, one after another
+-- the looks that are allowed, in sequence
 abbrev pub allowances : List Event → List ℕ
 allowances [] = []
 allowances (prints_text t ∷ xs) = allowances xs
@@ -28,16 +28,16 @@ only_allowed [] ys e = refl
 only_allowed (prints_text t ∷ xs) ys e = absurd (some_none t (texts_in xs) e)
 only_allowed (allows k ∷ xs) ys e = ap (λ zs. allows k ∷ zs) (only_allowed xs ys e)
 
--- what is not printed allows looks, and nothing else
+-- a parse that is not printed allows looks, and nothing more
 pub silent_allowed : (plain : Bool) (o : Outcome) (k : Place → Bool → Trace) → and_then (of plain false o) k ≡ with_looks (allowances (of plain false o).events) (k o.place o.is_bracket_open)
 silent_allowed plain o k = let g = k o.place o.is_bracket_open in ap (λ xs. record { events = xs; place = g.place; is_bracket_open = g.is_bracket_open }) (only_allowed (events plain false o.tree) g.events (quiet_events plain o.tree))
 
--- a path that is not printed, with so many depths left
+-- a path that is not printed, with `left` depths left
 abbrev pub path_trace : Bool → List ℕ → Bool → ℕ → Bool → ℕ → ℕ → Trace
 path_trace plain b folds left value m i = of plain false (level_of b folds (levels b folds left) false a_path value m i)
 
--- Where it is skipped, the looks that its reading allows are allowed there, and it goes on where its reading ends: with
--- any lifetimes in force in that reading, and in value position or not.
+-- A skipped path allows the looks of its parse, and the rest starts where the parse ends. This holds for any number of
+-- lifetimes in scope and for any value position.
 pub skip_reads : (plain out : Bool) (b : List ℕ) (folds : Bool) (left n : ℕ) (value : Bool) (m : ℕ) (p : Items) (i : ℕ)
     → of plain out (parse (skip p) (context_at b folds out left n) (Some i)) ≡ with_looks (allowances (path_trace plain b folds left value m i).events) (of plain out (parse p (context_at b folds out left n) (path_trace plain b folds left value m i).place))
 unfolding parse

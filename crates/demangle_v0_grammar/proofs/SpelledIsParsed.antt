@@ -1,4 +1,5 @@
--- What is spelled so is read; and what is spelled without a reference, printed or not, hands over no stop.
+-- Bytes that are spelled are parsed. If they are spelled without a reference, they print no error, with output and
+-- without.
 use Rattle.std.specs.Prelude.{ℕ, IsTrue, ◌*◌, ◌&&◌, zero, suc, ◌<◌, ◌≤◌, ◌==◌, nat_le, codes}
 use Prim.Native.Char.{code}
 use Rattle.std.proofs.Common.{◌≡◌, Bool, true, false, cond, List, [], ◌∷◌, length, Option, Some, refl, sym, ◌+◌, ◌-◌, subst, arith}
@@ -20,13 +21,13 @@ use Rattle.demangle_symbol.proofs.Counts.{Placed, placed, byte_placed, namespace
 pub there_placed : (symbol : List ℕ) (b i : ℕ) → is_byte symbol i b ≡ true → i + 1 ≤ length symbol
 there_placed symbol b i e = let w : i < length symbol = is_byte_within symbol i b e in omega (arith, w)
 
--- behind a word
+-- after a primitive
 after_word : {A : Type 0} (symbol : List ℕ) (i j l e k : ℕ) (q : Read A) → Placed (i + 1) symbol q → (v : A) → q ≡ Some (v, l) → (l ≤ length symbol → (l ≤ j) × (j ≤ length symbol) × (e ≤ k + 24 + 32 * (j - l))) → (i ≤ j) × (j ≤ length symbol) × (e ≤ k + 32 * (j - i))
 after_word symbol i j l e k q p v u h =
     let w : (i + 1 ≤ l) × (l ≤ length symbol) = placed (i + 1) symbol q p v l u in
     let y : (l ≤ j) × (j ≤ length symbol) × (e ≤ k + 24 + 32 * (j - l)) = h w.1 in (omega (arith, w.0, y.0), y.1, omega (arith, w.0, y.0, y.2))
 
--- items that end with more credit than they began with read bytes
+-- items that end with a larger budget than they started with read bytes
 pub grows : {symbol : List ℕ} {w : Rule} {p : Items} {d m i j : ℕ} (c : Bool) (r e k : ℕ) (g : Bool) → Fits c r e k g p → Spells symbol w d m p i j → i ≤ length symbol → (i ≤ j) × (j ≤ length symbol) × (e ≤ k + 32 * (j - i))
 grows c r e k g f end_ b = (omega arith, b, omega (arith, f))
 grows c r e k g f (say_ a) b = grows _ _ _ _ _ f a b
@@ -58,15 +59,15 @@ grows c r e k g f (past_ u) b = (omega arith, b, omega (arith, f.2, f.5))
 grows {symbol} {i = i} c r e k g f (bound_ {k = n} x u w a o) b = let q : (i + 1 + 1 ≤ n) × (n ≤ length symbol) = placed (i + 1 + 1) symbol (identifier_at symbol (i + 1)) (identifier_placed symbol (i + 1)) x n w in
     let y = grows _ _ _ _ _ f.4 a q.1 in let z = grows c r e k g f o y.1 in (omega (arith, q.0, y.0, z.0), z.1, omega (arith, q.0, y.0, z.0, z.2))
 
--- The reading ends at j, and hands over no stop where no reference is followed.
+-- The parse ends at j. It prints no error if no reference is followed.
 abbrev pub Reads : Rule → Bool → ℕ → Outcome → Type 0
 Reads w x j o = (o.place ≡ Some j) × ((MayRefer w → x ≡ false) → HasNoError o.tree)
 
--- what is spelled by the rule w is read, printed or not
+-- bytes that are spelled by the rule w are parsed, with output or without
 abbrev pub IsRead : List ℕ → Rule → Bool → ℕ → ℕ → Items → (ℕ → Outcome) → Type 0
 IsRead symbol w x d m p f = (i j : ℕ) → i ≤ length symbol → Spells symbol w d m p i j → Reads w x j (f i)
 
--- units of a rank below r are read
+-- productions of a rank below r are parsed
 abbrev pub ReadAt : ℕ → List ℕ → Bool → ℕ → Level → Type 0
 ReadAt r symbol folds d l = (w : Rule) (x : Bool) → IsLaxer w (rule x folds) → (kind : Kind) (value : Bool) (n : ℕ) → IsTrue (is_below r kind) → IsRead symbol w x d n (items kind value) (l x kind value n)
 
@@ -74,7 +75,7 @@ abbrev pub ReadBelow : List ℕ → Bool → ℕ → List Level → Type 0
 ReadBelow symbol folds d [] = max_depth ≤ d
 ReadBelow symbol folds d (l ∷ ls) = ReadAt 2 symbol folds (d + 1) l × ReadBelow symbol folds (d + 1) ls
 
--- what is known of the surroundings
+-- the facts about the context
 pub record Knows (w : Rule) (r : ℕ) (s : Context) (d : ℕ) : Type 0 where
   pub laxer : IsLaxer w (rule s.printed s.folds)
   pub here : ReadAt r s.symbol s.folds d s.here
@@ -121,7 +122,7 @@ module _ (w : Rule) (x : Bool) where
   raised_reads symbol folds d [] f i j m l h = absurd (omega (arith, m, l))
   raised_reads symbol folds d (y ∷ ls) f i j m l h = h y ls m.0 m.1
 
-  -- the turns end, and it goes on from there
+  -- the repetitions end, and the rest starts at that place
   repetitions_read : (n : ℕ) (symbol : List ℕ) (d m : ℕ) (p q : Items) (f : Place → Outcome) (c : Bool) (r l : ℕ) → 1 ≤ l → Fits c r l (l - 1) false p → IsRead symbol w x d m p (λ i. f (Some i)) → (i j : ℕ) → suc (length symbol) ≤ n + i → i ≤ length symbol
       → Spells symbol w d m (until_end p q) i j → (k : ℕ) × Reads w x k (repetitions n symbol f (Some i)) × (k ≤ length symbol) × Spells symbol w d m q k j
   unfolding repetitions
@@ -217,7 +218,8 @@ reads {w} (dyn_trait p) {r} s d c e k g a n i j z (dyn_ {k = l} y x) =
     (bound_read w s.printed (suc (length s.symbol)) s d s.lifetimes p (parse p s) _ _ _ _ _ a.2.3 (reads p s d _ _ _ _ a.2.3 n) path.is_bracket_open false l j (omega arith) (grows false 1 8 2 true (fits a_trait_path false) y z).1 x)
 reads {w} (bindings o p) s d c e k g a n i j z x = bound_read w s.printed (suc (length s.symbol)) s d s.lifetimes p (parse p s) _ _ _ _ _ a.4 (reads p s d _ _ _ _ a.4 n) o o i j (omega arith) z x
 
--- A pattern and a dyn trait path alone begin units before the depth is raised, and neither begins one of these two.
+-- Only a pattern and a dyn trait path start productions before the depth is raised. Neither starts a pattern or a dyn
+-- trait path.
 
 pub all_below : (kind : Kind) → IsTrue (is_below 2 kind)
 all_below a_path = refl
@@ -245,7 +247,7 @@ unfolding levels
 levels_read symbol folds zero d e = omega arith
 levels_read symbol folds (suc n) d e = (level_reads symbol folds (d + 1) (levels symbol folds n) (levels_read symbol folds n (d + 1) (omega arith)), levels_read symbol folds n (d + 1) (omega arith))
 
--- by a rule no stricter than what is read asks for
+-- by a rule no stricter than the one that the parse requires
 pub unit_reads : (symbol : List ℕ) (folds : Bool) (w : Rule) (x : Bool) (kind : Kind) (value : Bool) (i j d n : ℕ) → IsLaxer w (rule x folds) → d ≤ max_depth → i ≤ length symbol → Spells symbol w d n (items kind value) i j → Reads w x j (read_at symbol folds x kind i d n value)
 unfolding read_at
 unit_reads symbol folds w x kind value i j d n l h b e = level_reads symbol folds d (levels symbol folds (max_depth - d)) (levels_read symbol folds (max_depth - d) d (omega arith)) w x l kind value n (all_below kind) i j b e

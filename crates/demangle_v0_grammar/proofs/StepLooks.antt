@@ -1,4 +1,4 @@
--- What a step takes from the stretches is paid for by the account.
+-- The budget pays for the costs of a step.
 use Rattle.std.specs.Prelude.{ℕ, ◌≤◌, ◌*◌}
 use Rattle.std.proofs.Common.{◌≡◌, List, [], ◌∷◌, length, ◌+◌, ◌++◌, map, ◌-◌, refl, arith}
 use Rattle.demangle_v0_grammar.specs.LookBudget.{LookCost, IsWithinBudget}

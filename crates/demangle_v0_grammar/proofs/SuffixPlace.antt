@@ -1,4 +1,4 @@
--- The suffix stands behind one path or two.
+-- The suffix starts after one path or two.
 use Rattle.std.proofs.Common.{◌≡◌, ℕ, ◌+◌, true, false, Some, None, List, refl, sym}
 use Rattle.demangle_v0_grammar.specs.Items.{a_path}
 use Rattle.demangle_v0_grammar.specs.Reading.{read_at, unit_end, suffix_place, starts_second_path}

@@ -1,4 +1,5 @@
--- Each row of the table fits: it pays for its looks, each turn reads a byte, and it begins and ends as its unit may.
+-- Each row of the table fits: it pays for its looks, and each repetition reads a byte. It starts and ends as its
+-- production may.
 use Rattle.std.specs.Prelude.{ℕ, suc, ◌&&◌, ◌≤◌, ◌||◌, ◌==◌, IsTrue, codes}
 use Rattle.std.proofs.Common.{◌≡◌, Bool, true, false, cond, List, [], ◌∷◌, Option, Some, None, refl, ◌+◌, ◌-◌, arith}
 use Prim.Native.Char.{code}
@@ -15,7 +16,7 @@ use Rattle.demangle_v0_grammar.proofs.ItemBudgets.{start, rank, is_below, is_clo
 abbrev Cheap : ℕ → ℕ → Bool → Items → Type 0
 Cheap e k g p = Fits true 2 e k g p
 
--- More credit and money to begin with, less at the end.
+-- A larger budget at the start, and a smaller one at the end.
 
 or_true : (g g' x : Bool) → (IsTrue g → IsTrue g') → IsTrue (g || x) → IsTrue (g' || x)
 or_true true true x h q = q
@@ -83,7 +84,7 @@ all_cheap e k g (t ∷ ts) p x = all_cheap e k (g || is_some_text t) ts p (cheap
 if_cheap : (e k : ℕ) (g c : Bool) (text : String) (p : Items) → Cheap e k g p → Cheap e k (g || is_some_text (codes text)) p → Cheap e k g (print_if c text p)
 if_cheap e k g c text p x y = cond_fits (Cheap e k g) c (print_str text p) p y x
 
--- Lists. The credit is 7 at the head of a loop.
+-- Lists. The budget is 7 looks at the start of a loop.
 
 at_end_fits : (c : Bool) (r e k : ℕ) (g : Bool) (p q : Items) → 1 ≤ k → Fits c r e 31 false p → Fits c r e (k - 1) g q → Fits c r e k g (at_end p q)
 at_end_fits c r e k g p q l x y = (omega (arith, l), cheaper c r p e e 31 (k + 31) false g (omega arith) (omega (arith, l)) (λ z. absurd (cc z)) x, (31, false, y, x))

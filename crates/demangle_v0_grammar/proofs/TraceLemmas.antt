@@ -1,4 +1,4 @@
--- What is heard of one thing behind another.
+-- The trace of one item after another.
 use Rattle.std.proofs.Common.{◌≡◌, ℕ, Bool, true, false, Option, List, [], ◌∷◌, ◌++◌, refl, ap, ◌∙◌, append_assoc}
 use Rattle.std.proofs.lemmas.List.{append-nil}
 use Rattle.demangle_v0_grammar.specs.Items.{Text}
@@ -17,7 +17,7 @@ pub said_both : (out : Bool) (ts us : List Text) (xs : List Event) → texts_the
 said_both out [] us xs = refl
 said_both out (t ∷ ts) us xs = ap (text_if out t) (said_both out ts us xs)
 
--- the pieces in front of a tree
+-- the pieces before a tree
 pub pieces_trace : (plain out : Bool) (ts : List Text) (rest : Tree) → events plain out (all_pieces ts rest) ≡ texts_then out ts (events plain out rest)
 pieces_trace plain out [] rest = refl
 pieces_trace plain out (t ∷ ts) rest = ap (text_if out t) (pieces_trace plain out ts rest)

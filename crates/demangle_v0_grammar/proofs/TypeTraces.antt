@@ -1,4 +1,4 @@
--- What is heard of types, up to their next child.
+-- The traces of types, up to their next nested production.
 use Rattle.std.specs.Prelude.{ℕ, zero, suc, ◌<◌, ◌≤◌, ◌==◌, nat_le, codes, slice_get, if◌then◌else◌}
 use Rattle.std.proofs.Common.{◌≡◌, Bool, true, false, cond, List, [], ◌∷◌, ◌++◌, length, Option, Some, None, refl, sym, ap, ◌∙◌, ◌+◌, ◌-◌, ◌*◌}
 use Prim.Native.Char.{code}
@@ -24,7 +24,7 @@ abbrev pub row_at : ℕ → List (String × Items) → Option Items
 row_at tag [] = None
 row_at tag (r ∷ rs) = if is_among tag (codes r.0) then Some r.1 else row_at tag rs
 
--- the same where the tag is still to be read
+-- the same if the tag is not read yet
 pub row_after : (tag : ℕ) (other : Items) (rs : List (String × Items)) → row_of tag other (after_tag rs) ≡ some_or other (row_at tag rs) (λ p. byte (λ _. p))
 row_after tag other [] = refl
 row_after tag other (r ∷ rs) = go (is_among tag (codes r.0)) (row_after tag other rs)
@@ -113,7 +113,7 @@ module _ (plain folds out : Bool) (b : List ℕ) (left n : ℕ) where
   pub type_deep : (i c : ℕ) → slice_get b i ≡ Some c → row_text c basic_types ≡ None → left ≡ 0 → of plain out (parse type_tagged s (Some i)) ≡ with_looks (1 ∷ []) (fault_of "{recursion limit reached}")
   type_deep i c e f l = tagged_so i c e f ∙ ap (λ (o : Outcome). with_looks (1 ∷ []) (of plain out o)) (raise_deep b folds out left n (type_after_tag c) (Some i) l)
 
-  -- a type that is made of others, one depth on
+  -- a type that contains others, one depth deeper
   pub constructed_reads : (i c : ℕ) → slice_get b i ≡ Some c → row_text c basic_types ≡ None → 0 < left → of plain out (parse type_tagged s (Some i)) ≡ with_looks (1 ∷ []) (of plain out (parse (type_after_tag c) (context_at b folds out (left - 1) n) (Some i)))
   constructed_reads i c e f l = tagged_so i c e f ∙ ap (λ (o : Outcome). with_looks (1 ∷ []) (of plain out o)) (raise_on b folds out left n (type_after_tag c) (Some i) l)
 
@@ -166,7 +166,7 @@ module _ (plain folds out : Bool) (b : List ℕ) (left n : ℕ) where
       mark true = ap (λ xs. with_looks (1 ∷ []) (with_texts out (codes ", " ∷ []) (with_looks (4 * (j - (i + 1) + 1) ∷ []) (trace_as xs h)))) name
       mark false = ap (λ xs. with_looks (1 ∷ []) (with_texts out (codes "<" ∷ []) (with_looks (4 * (j - (i + 1) + 1) ∷ []) (trace_as xs h)))) name
 
-  -- what a binding names
+  -- the value of a binding
   pub bound_constant : (i : ℕ) → is_byte b i (code "K") ≡ true → of plain out (parse binding_value s (Some i)) ≡ with_looks (1 ∷ []) (of plain out (unit_outcome s a_constant false (Some (i + 1))))
   unfolding parse
   bound_constant i e = rw e (ap (with_looks (1 ∷ [])) (last_child plain folds out b left n a_constant false (Some (i + 1)) tt))

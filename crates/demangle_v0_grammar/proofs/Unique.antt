@@ -1,4 +1,4 @@
--- A unit that begins at a place ends at one place at most.
+-- A production ends at one place at most, for each start.
 use Rattle.std.specs.Prelude.{ℕ}
 use Rattle.std.proofs.Common.{◌≡◌, Bool, true, false, List, Option, Some, refl, sym, ◌∙◌, ap, subst}
 use Rattle.demangle_symbol.specs.Primitives.{Name}
@@ -8,7 +8,7 @@ use Rattle.demangle_v0_grammar.specs.Spelling.{Rule, Spells, end_, say_, plain_,
 true_or_false : {A : Type 0} {b : Bool} → b ≡ true → b ≡ false → A
 true_or_false p q = cc (sym p ∙ q)
 
--- both readings of a word are one
+-- both results of a primitive are equal
 same : {A : Type 0} {o : Option A} {x y : A} → o ≡ Some x → o ≡ Some y → y ≡ x
 same p q = cc (sym q ∙ p)
 

@@ -1,4 +1,4 @@
--- A unit reads its items in the surroundings of its own depth.
+-- A production parses its items in the context of its own depth.
 use Rattle.std.specs.Prelude.{IsTrue, ◌≤◌, ℕ, zero, suc, ◌<◌, ◌&&◌, codes, slice_get}
 use Rattle.std.proofs.Common.{◌≡◌, Bool, true, false, List, length, Some, None, refl, ap, ◌∙◌, ◌+◌, ◌-◌, sub-one, arith}
 use Rattle.demangle_symbol.specs.Primitives.{byte_at, namespace_at, integer_at, optional_at, backref_at, identifier_at, nibbles_at}
@@ -11,11 +11,11 @@ use Rattle.demangle_v0_grammar.proofs.UnprintedTraces.{at, worded, peeked, forke
 use Rattle.demangle_v0_grammar.proofs.TableCost.{fits}
 use Rattle.demangle_v0_grammar.proofs.SpelledIsParsed.{all_below, below_rank, lowest}
 
--- both levels read units of a rank below r alike
+-- both levels parse productions of a rank below r to the same result
 abbrev Same : ℕ → Level → Level → Type 0
 Same r l l' = (pr : Bool) (kind : Kind) (v : Bool) (m i : ℕ) → IsTrue (is_below r kind) → l pr kind v m i ≡ l' pr kind v m i
 
--- f and g alike behind what n makes of a tree
+-- f and g have the same result after n changes the tree
 followed_same : (n : Tree → Tree → Tree) (o o' : Outcome) (f g : Place → Outcome) → o ≡ o' → ((x : Place) → f x ≡ g x) → with_tree (n o.tree) (f o.place) ≡ with_tree (n o'.tree) (g o'.place)
 followed_same n o o' f g e h = ap (λ (z : Outcome). with_tree (n z.tree) (f z.place)) e ∙ ap (λ (z : Outcome). with_tree (n o'.tree) z) (h o'.place)
 
@@ -26,7 +26,7 @@ folded_same false x x' y y' f g d e h = followed_same node y y' f g e h
 look : (k : ℕ) (o o' : Outcome) → o ≡ o' → with_tree (looked k) o ≡ with_tree (looked k) o'
 look k o o' e = ap (λ (z : Outcome). with_tree (looked k) z) e
 
--- items that begin such units alone read alike in both
+-- items that start only such productions have the same result in both levels
 module _ (b : List ℕ) (folds : Bool) (l l' : Level) (ls : List Level) (r : ℕ) (low : r ≤ 1) (e : Same r l l') where
   abbrev Alike : Bool → Items → Type 0
   Alike pr p = (m : ℕ) (i : Place) → parse p (at b folds pr l ls m) i ≡ parse p (at b folds pr l' ls m) i
@@ -72,12 +72,12 @@ level_same : (b : List ℕ) (folds : Bool) (ls : List Level) (kind : Kind) → S
 unfolding level_of
 level_same b folds ls kind pr k v m i h = same_here b folds nowhere (inner b folds ls) ls (rank k) (one k) (λ _ l _ _ _ q. absurd (lowest kind k l h q)) pr (items k v) _ _ _ _ (fits k v) m (Some i)
 
--- a unit that is begun reads its items
+-- a production parses its items
 pub begins : (b : List ℕ) (folds out : Bool) (left n : ℕ) (kind : Kind) (value : Bool) (i : ℕ) → unit_outcome (context_at b folds out left n) kind value (Some i) ≡ parse (items kind value) (context_at b folds out left n) (Some i)
 unfolding level_of
 begins b folds out left n kind value i = same_here b folds (inner b folds (levels b folds left)) (level_of b folds (levels b folds left)) (levels b folds left) (rank kind) (one kind) (level_same b folds (levels b folds left) kind) out (items kind value) _ _ _ _ (fits kind value) n (Some i)
 
--- one depth on, if there is one
+-- one depth deeper, if there is one
 pub raise_deep : (b : List ℕ) (folds out : Bool) (left n : ℕ) (p : Items) (i : Place) → left ≡ 0 → parse (raise p) (context_at b folds out left n) i ≡ failed_with too_deep
 unfolding parse levels
 raise_deep b folds out left n p i e = rw e refl

@@ -1,4 +1,4 @@
--- What is heard of a reading that is not printed: the same for any lifetimes in force, in value position or not.
+-- The trace of a parse that is not printed. It does not depend on the lifetimes in scope or on the value position.
 use Rattle.std.specs.Prelude.{ℕ, zero, suc, ◌&&◌, codes, slice_get}
 use Rattle.std.proofs.Common.{◌≡◌, Bool, true, false, cond, List, [], ◌∷◌, length, Option, Some, None, refl, sym, ap, ◌∙◌, ◌+◌, ◌-◌, ◌*◌}
 use Prim.Native.Char.{code}
@@ -15,11 +15,11 @@ use Rattle.demangle_v0_grammar.specs.Traces.{Event, text_if, Trace, of, events, 
 abbrev pub at : List ℕ → Bool → Bool → Level → List Level → ℕ → Context
 at b folds pr here deeper m = record { symbol = b; folds = folds; printed = pr; here = here; deeper = deeper; lifetimes = m }
 
--- surroundings in which nothing is printed
+-- a context in which nothing is printed
 abbrev silent : List ℕ → Bool → Level → List Level → ℕ → Context
 silent b folds here deeper m = at b folds false here deeper m
 
--- What is told of readings is told alike of their words, choices and turns, if it is behind a look.
+-- A fact on results that holds after a look holds of the primitives, choices and repetitions too.
 module _ {X : Type 0} (tell : Outcome → X) (look : (k : ℕ) (o o' : Outcome) → tell o ≡ tell o' → tell (with_tree (looked k) o) ≡ tell (with_tree (looked k) o')) where
   pub worded : {A : Type 0} (b : List ℕ) (folds pr : Bool) (l l' : Level) (ls : List Level) (m n : ℕ) (reads : List ℕ → ℕ → Read A) (f g : A → Place → Outcome) → ((v : A) (x : Place) → tell (f v x) ≡ tell (g v x)) → (j : Place)
       → tell (primitive (at b folds pr l ls m) j reads f) ≡ tell (primitive (at b folds pr l' ls n) j reads g)
@@ -48,7 +48,7 @@ module _ {X : Type 0} (tell : Outcome → X) (look : (k : ℕ) (o o' : Outcome) 
       forked (is_byte b i (code "E")) at_place at_place (λ j. followed_by (f j) (repetitions k b f)) (λ j. followed_by (g j) (repetitions k b g)) (Some i) (λ x. refl)
       (λ j. on (f j) (g j) (repetitions k b f) (repetitions k b g) (h j) (turned on k b f g h))
 
--- items without the texts that they say, the lifetimes that they name and the value position
+-- items without their texts, the lifetimes that they name, and the value position
 abbrev mute : Items → Items
 mute done = done
 mute invalid = invalid
@@ -76,11 +76,11 @@ mute (leave_open p) = leave_open (mute p)
 mute (dyn_trait p) = dyn_trait (mute p)
 mute (bindings o p) = bindings o (mute p)
 
--- of both the same is heard where they are not printed
+-- both have the same trace if they are not printed
 abbrev Alike : Bool → Outcome → Outcome → Type 0
 Alike plain o o' = of plain false o ≡ of plain false o'
 
--- a level of whose readings that are not printed the same is heard
+-- a level whose parses have the same trace if they are not printed
 abbrev pub Uniform : Bool → Level → Type 0
 Uniform plain l = (kind : Kind) (v w : Bool) (m n i : ℕ) → of plain false (l false kind v m i) ≡ of plain false (l false kind w n i)
 
@@ -173,7 +173,7 @@ module _ (plain : Bool) where
 
 -- The table.
 
--- the same rows, but for texts, lifetimes and the value position
+-- the same rows, except for texts, lifetimes and the value position
 abbrev SameRows : List (String × Items) → List (String × Items) → Type 0
 SameRows [] [] = Unit {0}
 SameRows (r ∷ rs) (s ∷ ss) = (r.0 ≡ s.0) × (mute r.1 ≡ mute s.1) × SameRows rs ss
@@ -233,6 +233,6 @@ unfolding levels
 levels_uniform plain b folds zero = tt
 levels_uniform plain b folds (suc left) = (level_uniform plain b folds (levels b folds left) (levels_uniform plain b folds left), levels_uniform plain b folds left)
 
--- a unit that is not printed: no lifetimes in force and no value position are heard
+-- a production that is not printed: its trace depends on neither the lifetimes in scope nor the value position
 pub silent_unit : (plain : Bool) (b : List ℕ) (folds : Bool) (left : ℕ) (kind : Kind) (v w : Bool) (m n i : ℕ) → of plain false (level_of b folds (levels b folds left) false kind v m i) ≡ of plain false (level_of b folds (levels b folds left) false kind w n i)
 silent_unit plain b folds left kind v w m n i = level_uniform plain b folds (levels b folds left) (levels_uniform plain b folds left) kind v w m n i

@@ -1,4 +1,4 @@
--- A text is read as a v0 symbol exactly where it is one.
+-- A text is parsed as a v0 symbol exactly if it is one.
 use Rattle.std.specs.Prelude.{◌≡◌, ◌↔◌, ℕ, zero, suc, ◌<◌, ◌&&◌, nat_lt, slice_index, codes, drop, Option, Some, None, IsAscii}
 use Rattle.std.specs.List.{list_all}
 use Rattle.std.proofs.Common.{◌≤◌, length, Bool, true, false, cond, List, [], ◌∷◌, ◌++◌, refl, sym, ◌∙◌, ap, subst, arith, inl, inr}
@@ -27,7 +27,7 @@ pub ascii_all : (xs : List ℕ) → IsAscii xs → list_all (λ b. nat_lt b 128)
 ascii_all [] h = refl
 ascii_all (x ∷ xs) h = rw (lt-ltb x 128 (h zero)) (ascii_all xs (λ i. h (suc i)))
 
--- each prefix is taken off
+-- each prefix is removed
 
 pub inner_prefix : (s r : List ℕ) → v0_inner s ≡ Some r → (prefix : List ℕ) × (s ≡ prefix ++ r) × IsV0Prefix prefix
 inner_prefix s r h = go (after_prefix (codes "_R") s) (after_prefix (codes "R") s) (after_prefix (codes "__R") s) refl refl refl h
@@ -43,7 +43,7 @@ prefix_inner prefix s r e (inl p) = rw (e, p) refl
 prefix_inner prefix s r e (inr (inl p)) = rw (e, p) refl
 prefix_inner prefix s r e (inr (inr p)) = rw (e, p) refl
 
--- the rest behind the tests
+-- the rest, after the tests
 abbrev ending : List ℕ → ℕ → Option (List ℕ × List ℕ)
 ending inner k = Some (inner, drop k inner)
 
@@ -84,7 +84,7 @@ v0_is_read symbol inner suffix (prefix, whole, is, ascii, begins, (k, paths, end
 pub reading_is_v0 : (symbol inner suffix : List ℕ) → (v0_of symbol ≡ Some (inner, suffix)) ↔ IsV0 symbol inner suffix
 reading_is_v0 symbol inner suffix = (read_is_v0 symbol inner suffix, v0_is_read symbol inner suffix)
 
--- What `demangle` answers.
+-- The result of `demangle`.
 
 pub v0_no_prefix : (symbol : List ℕ) → None ≡ v0_inner symbol → v0_of symbol ≡ None
 unfolding v0_of
@@ -116,7 +116,7 @@ v0_no_paths symbol inner e h g k = v0_begun symbol inner e h g ∙ ap (λ (o : O
 pub v0_there : (symbol inner : List ℕ) (k : ℕ) → Some inner ≡ v0_inner symbol → IsAscii inner → starts_second_path inner 0 ≡ true → Some k ≡ suffix_place inner → v0_of symbol ≡ Some (inner, drop k inner)
 v0_there symbol inner k e h g p = v0_begun symbol inner e h g ∙ ap (λ (o : Option ℕ). then_if_some o (ending inner)) (sym p)
 
--- the suffix begins within the symbol
+-- the suffix starts within the symbol
 pub suffix_within : (inner : List ℕ) (k : ℕ) → Some k ≡ suffix_place inner → k ≤ length inner
 suffix_within inner k e = within (accepted inner k (sym e))
   where

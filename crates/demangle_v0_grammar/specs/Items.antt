@@ -40,7 +40,8 @@ pub data Items : Type 0 where
   child : Kind → Bool → Items → Items
   -- a path that is read and not printed
   skip : Items → Items
-  -- generic arguments, and the rest; if arguments are folded, they are read and not printed, and `_` is printed for them
+  -- generic arguments, and the rest; if arguments are folded, they are read and not printed, and `_` is printed for
+  -- them
   folded : Items → Items → Items
   -- the primitive of a back reference, and its target
   target : Kind → Bool → Items
@@ -52,6 +53,7 @@ pub data Items : Type 0 where
   leave_open : Items → Items
   -- a dyn trait path, and bindings to these items
   dyn_trait : Items → Items
-  -- Bindings, as many as begin with `p`; the flag says whether a `<` is open. Each prints `<` if none is open yet, otherwise
-  -- `, `, then its name and ` = `, then these items. An error in its name ends the production. `>` follows if one is open.
+  -- Bindings, as many as begin with `p`; the flag says whether a `<` is open. Each prints `<` if none is open yet,
+  -- otherwise `, `, then its name and ` = `, then these items. An error in its name ends the production. `>` follows if
+  -- one is open.
   bindings : Bool → Items → Items

@@ -14,8 +14,8 @@ abbrev pub looks_of : List LookCost → ℕ
 looks_of [] = 0
 looks_of (s ∷ xs) = s.looks + looks_of xs
 
--- A budget of `from` looks pays for the tokens in order, and at least `to` is left at the end. A token is paid before its
--- bytes count. Then each of its bytes adds `rate`.
+-- A budget of `from` looks pays for the tokens in order, and at least `to` is left at the end. A token is paid before
+-- its bytes count. Then each of its bytes adds `rate`.
 abbrev pub IsWithinBudget : (rate from : ℕ) → List LookCost → (to : ℕ) → Type 0
 IsWithinBudget rate from [] to = to ≤ from
 IsWithinBudget rate from (s ∷ xs) to = (s.looks ≤ from) × IsWithinBudget rate (from - s.looks + rate * s.bytes) xs to

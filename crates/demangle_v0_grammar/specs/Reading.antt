@@ -90,13 +90,13 @@ with_tree f o = record o { tree = f o.tree }
 abbrev pub followed_by : Outcome → (Place → Outcome) → Outcome
 followed_by o rest = with_tree (node o.tree) (rest o.place)
 
--- How the productions of one depth are read. The arguments are: whether to print, the kind, the value position, the lifetimes
--- in scope, and the place. References are followed and lifetimes checked only when printing.
+-- How the productions of one depth are read. The arguments are: whether to print, the kind, the value position, the
+-- lifetimes in scope, and the place. References are followed and lifetimes checked only when printing.
 abbrev pub Level : Type 0
 Level = Bool → Kind → Bool → ℕ → ℕ → Outcome
 
--- the context of a production: the symbol, whether to fold arguments, whether to print, the productions of its own depth and
--- of deeper ones, and the lifetimes in scope
+-- the context of a production: the symbol, whether to fold arguments, whether to print, the productions of its own
+-- depth and of deeper ones, and the lifetimes in scope
 pub record Context : Type 0 where
   pub symbol : List ℕ
   pub folds : Bool
@@ -156,7 +156,8 @@ abbrev pub unprinted_path : Context → (Place → Outcome) → Place → Outcom
 unprinted_path s rest None = rest None
 unprinted_path s rest (Some i) = after_unprinted (s.here false a_path false s.lifetimes i) rest
 
--- folded arguments, which are read and not printed, or other ones, which are printed; then the rest from the place after them
+-- folded arguments, which are read and not printed, or other ones, which are printed; then the rest from the place
+-- after them
 abbrev pub folded_by : Bool → (skipped printed : Outcome) → (Place → Outcome) → Outcome
 folded_by true skipped printed rest = after_unprinted skipped (λ i. with_tree (piece (codes "_")) (rest i))
 folded_by false skipped printed rest = followed_by printed rest
@@ -270,8 +271,8 @@ parse (bindings open_ p) s i = bound_by (suc (length s.symbol)) s (parse p s) op
 abbrev pub nowhere : Level
 nowhere printed kind value lifetimes i = failed_with invalid_syntax
 
--- The productions of a depth, over those of the depths below it. Paths, types and constants start others only after they raise
--- the depth. A pattern and a dyn trait path start constants, types and paths at their own depth.
+-- The productions of a depth, over those of the depths below it. Paths, types and constants start others only after
+-- they raise the depth. A pattern and a dyn trait path start constants, types and paths at their own depth.
 unfoldable pub level_of : List ℕ → Bool → List Level → Level
 level_of symbol folds deeper printed kind value lifetimes i =
     let at : Level → Bool → ℕ → Context = λ here pr ls. record { symbol = symbol; folds = folds; printed = pr; here = here; deeper = deeper; lifetimes = ls } in

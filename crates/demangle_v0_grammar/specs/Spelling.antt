@@ -7,9 +7,9 @@ use Rattle.demangle_v0_grammar.specs.Items.{Text, Kind, a_path, a_trait_path, It
 use Rattle.demangle_v0_grammar.specs.Table.{items}
 use Rattle.demangle_v0_grammar.specs.Reading.{max_depth, starts_second_path}
 
--- The rule for what is printed. `freely` requires nothing. `named` requires that each lifetime outside references is in scope.
--- `named_outside` requires the same, except for generic arguments, which are folded. `simple` allows no reference, and no
--- lifetime other than that of index 0.
+-- The rule for what is printed. `freely` requires nothing. `named` requires that each lifetime outside references is in
+-- scope. `named_outside` requires the same, except for generic arguments, which are folded. `simple` allows no
+-- reference, and no lifetime other than that of index 0.
 pub data Rule : Type 0 where
   freely named named_outside simple : Rule
 
@@ -31,7 +31,8 @@ MayRefer named = Unit {0}
 MayRefer named_outside = Unit {0}
 MayRefer simple = ⊥
 
--- `Spells symbol r d m p i j`: the bytes from i to j spell the items p, at depth d, with m lifetimes in scope, by the rule r
+-- `Spells symbol r d m p i j`: the bytes from i to j spell the items p, at depth d, with m lifetimes in scope, by the
+-- rule r
 pub data Spells (symbol : List ℕ) : Rule → ℕ → ℕ → Items → ℕ → ℕ → Type 0 where
   end_ : {r : Rule} {d m i : ℕ} → Spells symbol r d m done i i
   say_ : {r : Rule} {p : Items} {d m i j : ℕ} {t : Text} → Spells symbol r d m p i j → Spells symbol r d m (print t p) i j

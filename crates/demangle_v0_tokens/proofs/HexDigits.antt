@@ -1,4 +1,4 @@
--- A number's hexadecimal digits, as many as there are places for, its leading zeros too.
+-- The hexadecimal digits of a number, as many as there are places, including its leading zeros.
 use Rattle.std.proofs.Common.{◌≡◌, ℕ, zero, suc, ◌+◌, ◌-◌, ◌*◌, ◌/◌, ◌%◌, ◌^◌, ◌<◌, ◌≤◌, Bool, true, false, ◌&&◌, T, eqb, eqb→eq, List, [], ◌∷◌, ◌++◌, drop, length, set, get_or, refl, ap, sym, ◌∙◌, inl, inr, arith, eq-zero-or-pos, append_assoc}
 use Rattle.std.specs.Fmt.{digits, digits_onto, digit_glyph}
 use Rattle.std.proofs.Math.Nat.{div-one, div-div-eq-div-mul, pow-le-pow_right, one-le-pow}
@@ -27,12 +27,12 @@ first_off i n =
     let more : 16 ^ suc i ≡ 16 * 16 ^ i = omega (arith, pow_more 16 i) in
     ap (λ p. n / p) more ∙ sym (div-div-eq-div-mul n 16 (16 ^ i))
 
--- The lowest digit stands last.
+-- The lowest digit is the last one.
 lowest_last : (i n : ℕ) → low_digits (suc i) n ≡ low_digits i (n / 16) ++ digit_glyph false (n % 16) ∷ []
 lowest_last zero n = ap (λ d. digit_glyph false (d % 16) ∷ []) (div-one n)
 lowest_last (suc i) n = λ k. digit_glyph false (first_off i n k % 16) ∷ lowest_last i n k
 
--- Where the highest of some digits is not zero, or there is but one, they are the number's.
+-- Digits whose highest is not zero are those of the number, and so is a single digit.
 onto_low : (i k n : ℕ) (text : List ℕ) → i < k → n < 16 ^ suc i → (0 < i → 16 ^ i ≤ n) → digits_onto k 16 false n text ≡ low_digits (suc i) n ++ text
 onto_low zero k n text fuel below top =
     onto_last (k - 1) k n text (omega arith) (omega arith) ∙ sym (ap (λ ds. ds ++ text) (lowest_last zero n))
@@ -44,7 +44,7 @@ onto_low (suc i) k n text fuel below top =
     ∙ (sym (append_assoc (low_digits (suc i) (n / 16)) (digit_glyph false (n % 16) ∷ []) text)
     ∙ sym (ap (λ ds. ds ++ text) (lowest_last (suc i) n))))
 
--- Behind the digits in the highest places come those in the lowest.
+-- The digits in the lowest places follow those in the highest.
 drop_low : (z k i n : ℕ) → k ≡ z + i → drop z (low_digits k n) ≡ low_digits i n
 drop_low zero k i n e = let same : k ≡ i = omega arith in ap (λ m. low_digits m n) same
 drop_low (suc z) zero i n e = absurd (omega arith)
@@ -72,11 +72,11 @@ high_digit r = (pair_below 256 (r % 256) tt (omega arith)).0 ∙ ap (digit_glyph
 pub low_digit : (r : ℕ) → get_or DIGIT_PAIRS_16 (r % 256 * 2 + 1) 0 ≡ digit_glyph false (r % 16)
 low_digit r = (pair_below 256 (r % 256) tt (omega arith)).1 ∙ ap (digit_glyph false) (omega arith)
 
--- A digit that is written stands in front of what stood behind its place.
+-- A digit that is written comes before the text that followed its place.
 pub digit_put : (text : List ℕ) (at x g : ℕ) → at < length text → x ≡ g → drop at (set text at x) ≡ g ∷ drop (at + 1) text
 digit_put text at x g le e = drop-set text at x le ∙ (λ t. e t ∷ drop (at + 1) text)
 
--- A hexadecimal digit has the room of four binary ones.
+-- A hexadecimal digit has as many values as four binary ones.
 four_each : (i : ℕ) → 16 ^ i ≡ 2 ^ (4 * i)
 four_each zero = refl
 four_each (suc i) =
@@ -84,7 +84,7 @@ four_each (suc i) =
     let more : 2 ^ (4 * suc i) ≡ 2 ^ (4 * i) * 16 = ap (λ e. 2 ^ e) next ∙ pow-add 2 (4 * i) 4 in
     omega (arith, four_each i, more, pow_more 16 i)
 
--- The digits that are no leading zeros are the number's.
+-- The digits that are not leading zeros are those of the number.
 pub zeros_off : (n : ℕ) → n < 2 ^ 64 → drop (count_leading_zeros 64 (bit_or n 1) / 4) (low_digits 16 n) ≡ digits 16 false n
 unfolding digits
 zeros_off n fits =

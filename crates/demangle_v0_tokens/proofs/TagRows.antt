@@ -1,4 +1,4 @@
--- What is found by a tag is what the table has, row by row.
+-- The kind that a tag has in the code is that of the table, row by row.
 use Rattle.std.specs.Prelude.{ℕ, map, codes}
 use Prim.Native.String.{String}
 use Rattle.std.proofs.Common.{◌≡◌, Bool, true, false, cond, List, [], ◌∷◌, Some, refl, ap, ◌∙◌}
@@ -20,7 +20,7 @@ pub row_found : {A : Type 0} (tag : ℕ) (other : Items) (f : A → Items) (rs :
 row_found tag other f [] = refl
 row_found tag other f (r ∷ rs) = either (λ o. some_or other o f) (is_among tag (codes r.0)) (Some r.1) (found tag rs) _ (row_found tag other f rs)
 
--- the same of the texts of basic types
+-- the same for the texts of basic types
 text_found : (tag : ℕ) (rs : List (String × String)) → row_text tag rs ≡ found tag (map (λ (r : String × String). (r.0, codes r.1)) rs)
 text_found tag [] = refl
 text_found tag (r ∷ rs) = ap (cond (is_among tag (codes r.0)) (Some (codes r.1))) (text_found tag rs)

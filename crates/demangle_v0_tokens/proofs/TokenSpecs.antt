@@ -1,4 +1,4 @@
--- Each word reads what its items read.
+-- Each token spec reads what its items read.
 use Rattle.std.specs.Prelude.{ℕ, if◌then◌else◌, ◌==◌, nat_le, codes, decimal, option_map, slice_range}
 use Rattle.std.specs.Fmt.{digits}
 use Rattle.std.proofs.Common.{◌≡◌, Bool, true, false, cond, List, [], ◌∷◌, ◌++◌, length, Option, Some, None, refl, sym, ◌∙◌, ap, ◌+◌, ◌-◌, ◌*◌, subst, arith}
@@ -29,7 +29,7 @@ use Rattle.demangle_v0_tokens.specs.declared.read.TokenOutcome.TheVariants.{Pars
 use Rattle.demangle_v0_grammar.proofs.TypeTraces.{says_all, lifetime_named, lifetime_wrong}
 use Rattle.demangle_v0_grammar.proofs.TraceLemmas.{handing_both}
 
--- a word, and what follows it unless it ends the unit
+-- a token, and the items after it unless it ends the production
 abbrev pub token_then : List ℕ → Bool → Bool → TokenOutcome → (Place → Trace) → Trace
 token_then b include_hash out (Parsed x j) k = with_texts out (texts_of b include_hash x) (k j)
 token_then b include_hash out (NotParsed m) k = with_texts out (text m ∷ []) (empty_trace None false)
@@ -37,7 +37,7 @@ token_then b include_hash out (NotParsed m) k = with_texts out (text m ∷ []) (
 abbrev pub grouped : List ℕ → Bool → Bool → TokenSpec → (Place → Trace) → Trace
 grouped b include_hash out g k = with_looks g.costs (token_then b include_hash out g.reads k)
 
--- Words.
+-- Primitives.
 
 primitive_reads : {A : Type 0} (b : List ℕ) (include_hash out : Bool) (n i : ℕ) (rest : A → Place → Outcome) (f : A → ℕ → TokenSpec) (k : Place → Trace) → ((a : A) (j : ℕ) → of include_hash out (rest a (Some j)) ≡ grouped b include_hash out (f a j) k) → (r : Read A)
     → of include_hash out (primitive_outcome n i rest r) ≡ grouped b include_hash out (after_primitive n i r f) k
@@ -210,7 +210,7 @@ unfolding parse
 literal_read b include_hash out p s j h None e = refl
 literal_read b include_hash out p s j h (Some cs) e = rw e (says_all include_hash out (literal (code "\"") cs) p s (Some j))
 
--- What is read in these surroundings.
+-- The parts that are read in this context.
 module _ (b : List ℕ) (include_hash folds : Bool) (left : ℕ) (out : Bool) (n : ℕ) where
   abbrev at : Context
   at = context_at b folds out left n
@@ -255,7 +255,7 @@ module _ (b : List ℕ) (include_hash folds : Bool) (left : ℕ) (out : Bool) (n
       (λ end j. let h : Part = record { from = i; to = end } in literal_read b include_hash out p at j h (string_of (bytes_in b h)) refl)
   word_read _ note p _ = refl
 
-  -- the names of paths, behind their tag
+  -- the names of paths, after their tag
 
   pub crate_reads : (v : Bool) (i : ℕ) → of include_hash out (parse (path v 67) at (Some i)) ≡ grouped b include_hash out (crate_group b i) (λ j. of include_hash out (parse done at j))
   unfolding parse

@@ -25,7 +25,7 @@ pub binder_none : (k n : ℕ) → k ≡ 0 → binder_texts k n ≡ []
 unfolding binder_texts
 binder_none k n e = rw e refl
 
--- another, behind others
+-- one more text, after others
 pub more_turn : (k m n n' : ℕ) → k ≡ suc m → n' ≡ n + 1 → more_texts k n ≡ (codes ", " ∷ codes "'" ∷ letter_of n) ++ more_texts m n'
 unfolding more_texts
 more_turn k m n n' e f = rw (e, f) refl
@@ -34,23 +34,23 @@ pub more_end : (k n : ℕ) → k ≡ 0 → more_texts k n ≡ codes "> " ∷ []
 unfolding more_texts
 more_end k n e = rw e refl
 
--- an ABI's name before anything is read
+-- the name of an ABI before any byte of it is read
 pub hyphen_start : (s : List ℕ) (from to : ℕ) → hyphenated_abi (slice_range s from from) (slice_range s from to) ≡ hyphenated_abi [] (slice_range s from to)
 hyphen_start s from to = ap (λ part. hyphenated_abi part (slice_range s from to)) (between_none s from)
 
--- the byte at a place is this one, or not
+-- whether the byte at a place is this one
 byte_is : (s : List ℕ) (at b : ℕ) (c : Bool) → at < length s → is_byte s at b ≡ c → eqb (get_or s at 0) b ≡ c
 unfolding is_byte
 byte_is s at b c h e = ap (λ o. option_is o b) (sym (slice_get-get_or s at 0 h)) ∙ e
 
--- at a `_` its part ends
+-- a `_` ends a part
 pub hyphen_turn : (s : List ℕ) (from at to : ℕ) → at < to → to ≤ length s → is_byte s at 95 ≡ true → hyphenated_abi (slice_range s from at) (slice_range s at to) ≡ (slice_range s from at ∷ codes "-" ∷ []) ++ hyphenated_abi (slice_range s (at + 1) (at + 1)) (slice_range s (at + 1) to)
 hyphen_turn s from at to lt inside e =
     let first = part_first s at to lt inside in
     let is : eqb (get_or s at 0) 95 ≡ true = byte_is s at 95 true (omega arith) e in
     rw (first, is, between_none s (at + 1)) refl
 
--- any other byte is read of its part
+-- any other byte belongs to a part
 pub hyphen_on : (s : List ℕ) (from at to : ℕ) → from ≤ at → at < to → to ≤ length s → is_byte s at 95 ≡ false → hyphenated_abi (slice_range s from at) (slice_range s at to) ≡ hyphenated_abi (slice_range s from (at + 1)) (slice_range s (at + 1) to)
 hyphen_on s from at to le lt inside e =
     let first = part_first s at to lt inside in
@@ -58,7 +58,7 @@ hyphen_on s from at to le lt inside e =
     let is : eqb (get_or s at 0) 95 ≡ false = byte_is s at 95 false (omega arith) e in
     rw (first, is, more) refl
 
--- at the end the last part is left
+-- at the end, the last part remains
 pub hyphen_end : (s : List ℕ) (from at to : ℕ) → at ≡ to → hyphenated_abi (slice_range s from at) (slice_range s at to) ≡ slice_range s from to ∷ []
 hyphen_end s from at to e = rw (e, between_none s to) refl
 

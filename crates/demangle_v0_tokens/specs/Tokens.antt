@@ -255,8 +255,8 @@ abbrev pub AbiIn : List ℕ → Abi → Type 0
 AbiIn b (abi.Named part) = PartIn b part
 AbiIn b _ = Unit {0}
 
--- The parts of the token are in the symbol, and those of a literal spell a text. The number of each lifetime of a binder has
--- 128 bits.
+-- The parts of the token are in the symbol, and those of a literal spell a text. The number of each lifetime of a
+-- binder has 128 bits.
 abbrev pub IsTokenWithin : List ℕ → Token → Type 0
 IsTokenWithin b (CrateName a d) = IsIdentWithin b a
 IsTokenWithin b (FieldName a) = IsIdentWithin b a

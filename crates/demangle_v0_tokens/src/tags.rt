@@ -54,8 +54,8 @@ pub enum ConstructedType {
     Pattern,
 }
 
-/// Returns the kind of the type that begins with a tag. The result is `None` for any other tag, such
-/// as that of a basic type or a path.
+/// Returns the kind of the type that begins with a tag. The result is `None` for any other tag,
+/// such as that of a basic type or a path.
 #[inline(always)]
 pub fn type_kind(tag: u8) -> Option<TypeKind>
     ensures { result ≡ found tag (type_kinds tag) }

@@ -6,15 +6,18 @@ ghost use Rattle.std.specs.Prelude.{◌≡◌, ◌+◌, ◌<◌, ◌≤◌, ◌�
 ghost use Prim.Native.Nat.{min};
 ghost use Rattle.std.specs.List.{prefix_len};
 ghost use Rattle.rustc_demangle.specs.Cut.{size};
-ghost use Rattle.rustc_demangle.specs.Filtered.{is_run_byte, starts_run, filtered_within};
+ghost use Rattle.rustc_demangle.specs.Filtered.{is_run_byte, starts_run, filtered_in, filtered_within};
 ghost use Rattle.rustc_demangle.specs.Slice.{overlay};
-ghost use Rattle.demangle_c_string.specs.CString.{IsRustSymbol, path_within, c_string};
+ghost use Rattle.rustc_demangle.specs.Symbols.{folded};
+ghost use Rattle.demangle_c_string.specs.CString.{IsRustSymbol, path_in, path_within, c_string};
 
 #[cfg(test)]
 mod tests;
 
-use demangle_c_string::{MAX_SIZE, symbol_of, write_part, write_text};
-use rustc_demangle::{run_len, run_start};
+use demangle_c_string::{
+    MAX_SIZE, symbol_of, write_part, write_part_formatted, write_text, write_text_formatted,
+};
+use rustc_demangle::{Format, run_len, run_start};
 
 /// Returns `true` if the bytes are a Rust symbol, after a suffix of ThinLTO is removed.
 ///
@@ -35,9 +38,9 @@ pub extern "C" fn kodliwe_is_symbol(symbol: &[u8]) -> bool
 ///
 /// If the bytes are not a symbol, the call returns 0 and leaves the memory unchanged. Otherwise the
 /// result does not depend on the size of the memory. The memory receives the path and its 0 if the
-/// result is at most that size. If it is more, the memory receives as much of the path as fits before
-/// a 0. No byte after the 0 is changed, and memory of size 0 stays unchanged. The call does not
-/// allocate.
+/// result is at most that size. If it is more, the memory receives as much of the path as fits
+/// before a 0. No byte after the 0 is changed, and memory of size 0 stays unchanged. The call does
+/// not allocate.
 #[unsafe(no_mangle)]
 pub extern "C" fn kodliwe_demangle_limited(
     symbol: &[u8],
@@ -53,6 +56,32 @@ pub extern "C" fn kodliwe_demangle_limited(
         out.new ≡ overlay out.old (c_string (length out.old) path) }
 {
     write_part(symbol, out, include_hash, limit, 0)
+}
+
+/// Writes a path as `kodliwe_demangle_limited` does, with `_` for each list of generic arguments.
+///
+/// So all instances of a generic function have one name. A legacy symbol prints completely, because
+/// its arguments are parts of names.
+#[unsafe(no_mangle)]
+pub extern "C" fn kodliwe_demangle_folded(
+    symbol: &[u8],
+    out: &mut [u8],
+    include_hash: bool,
+    limit: usize,
+) -> usize
+    ensures none { (IsRustSymbol symbol.now → ⊥) → (result ≡ 0) × (out.new ≡ out.old) }
+    ensures size { IsRustSymbol symbol.now →
+        result ≡ length (path_in symbol.now (folded include_hash (min limit MAX_SIZE))) + 1 }
+    ensures text { IsRustSymbol symbol.now →
+        let path = path_in symbol.now (folded include_hash (min limit MAX_SIZE)) in
+        out.new ≡ overlay out.old (c_string (length out.old) path) }
+{
+    let format = Format {
+        include_hash,
+        fold_arguments: true,
+        limit,
+    };
+    write_part_formatted(symbol, out, format, 0)
 }
 
 /// Writes bytes to memory with each Rust symbol replaced by its path, and a 0 after them. Returns
@@ -82,6 +111,30 @@ pub extern "C" fn kodliwe_demangle_text(
         result ≡ usize.MAX }
 {
     write_text(text, out, include_hash, limit)
+}
+
+/// Writes a text as `kodliwe_demangle_text` does, with `_` for each list of generic arguments.
+#[unsafe(no_mangle)]
+pub extern "C" fn kodliwe_demangle_text_folded(
+    text: &[u8],
+    out: &mut [u8],
+    include_hash: bool,
+    limit: usize,
+) -> usize
+    ensures size { let filtered = filtered_in (folded include_hash (min limit MAX_SIZE)) text.now in
+        length filtered < usize.MAX → result ≡ length filtered + 1 }
+    ensures text { let filtered = filtered_in (folded include_hash (min limit MAX_SIZE)) text.now in
+        length filtered < usize.MAX →
+        out.new ≡ overlay out.old (c_string (length out.old) filtered) }
+    ensures past { usize.MAX ≤ length (filtered_in (folded include_hash (min limit MAX_SIZE)) text.now) →
+        result ≡ usize.MAX }
+{
+    let format = Format {
+        include_hash,
+        fold_arguments: true,
+        limit,
+    };
+    write_text_formatted(text, out, format)
 }
 
 /// Returns the index of the next `_ZN` or `_R` in a text, or the size of the text if it has

@@ -1,7 +1,7 @@
 //! Tests of the calls, for each kind of result. The texts are those of the Rust crate.
 use crate::{
-    kodliwe_demangle_limited, kodliwe_demangle_text, kodliwe_is_symbol, kodliwe_run_len,
-    kodliwe_run_start,
+    kodliwe_demangle_folded, kodliwe_demangle_limited, kodliwe_demangle_text,
+    kodliwe_demangle_text_folded, kodliwe_is_symbol, kodliwe_run_len, kodliwe_run_start,
 };
 
 #[test]
@@ -18,6 +18,28 @@ fn a_limit_cuts_before_the_suffix(rt: HostRuntime) {
     let want = kodliwe_demangle_limited(b"_ZN3foo3barE.cold.7", &mut out, false, 4);
     assert_eq!(rt; want, 31);
     assert!(rt; out.starts_with(b"foo{size limit reached}.cold.7\0\x09"));
+}
+
+#[test]
+fn arguments_are_folded(rt: HostRuntime) {
+    let mut out = [9; 40];
+    let symbol = b"_RNvMC3fooINtB2_3BarlE3baz";
+    assert_eq!(rt; kodliwe_demangle_folded(symbol, &mut out, false, 100), 19);
+    assert!(rt; out.starts_with(b"<foo::Bar<_>>::baz\0\x09\x09"));
+    let mut cut = [9; 40];
+    assert_eq!(rt; kodliwe_demangle_folded(symbol, &mut cut, true, 1), 22);
+    assert!(rt; cut.starts_with(b"<{size limit reached}\0\x09"));
+    let mut none = [9; 4];
+    assert_eq!(rt; kodliwe_demangle_folded(b"main", &mut none, false, 100), 0);
+    assert!(rt; none == [9; 4]);
+}
+
+#[test]
+fn a_folded_path_has_its_hash(rt: HostRuntime) {
+    let mut out = [9; 40];
+    let symbol = b"_RINvCs1234_3foo3barhE";
+    assert_eq!(rt; kodliwe_demangle_folded(symbol, &mut out, true, 100), 21);
+    assert!(rt; out.starts_with(b"foo[3c1c0]::bar::<_>\0\x09"));
 }
 
 #[test]
@@ -48,6 +70,21 @@ fn a_text_is_counted_past_the_memory(rt: HostRuntime) {
     assert_eq!(rt;
         kodliwe_demangle_text(b"_ZN3foo3barE", &mut out[..0], false, 4),
         24
+    );
+}
+
+#[test]
+fn arguments_in_a_text_are_folded(rt: HostRuntime) {
+    let mut out = [9; 40];
+    let text = b"\xFF _RINvC3foo3barhE\r\n\0_R";
+    assert_eq!(rt;
+        kodliwe_demangle_text_folded(text, &mut out, false, 100),
+        21
+    );
+    assert!(rt; out.starts_with(b"\xFF foo::bar::<_>\r\n\0_R\0\x09"));
+    assert_eq!(rt;
+        kodliwe_demangle_text_folded(text, &mut out[..0], false, 4),
+        31
     );
 }
 

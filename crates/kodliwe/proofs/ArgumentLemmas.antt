@@ -1,4 +1,4 @@
--- Lemmas on the words of the command line.
+-- Lemmas on the arguments of the command line.
 use Rattle.std.proofs.Common.{◌≡◌, ℕ, List, [], ◌∷◌, ◌++◌, codes, drop, length, map, reverse, ap, sym, ◌∙◌, subst, refl, ◌⊎◌, ◌≤◌, inl, inr, IfSome}
 use Rattle.std.specs.Borrow.{Bor}
 use Rattle.std.proofs.lemmas.Option.{IfSome_then}
@@ -21,20 +21,20 @@ pub no_value : (short long argument : List ℕ) → ((value : List ℕ) → argu
 no_value short long argument no_long no_short value (inl e) = no_long value e
 no_value short long argument no_long no_short value (inr e) = no_short value e.0
 
--- a word that goes on behind the long name without =
+-- an argument that has more text after the long name, and no `=`
 pub no_long_value : (long argument rest : List ℕ) (n : ℕ) → n ≡ length long → rest ≡ drop n argument → ((more : List ℕ) → rest ≡ codes "=" ++ more → ⊥)
     → (value : List ℕ) → argument ≡ long ++ 61 ∷ value → ⊥
 no_long_value long argument rest n len is none value e = none value (is ∙ ap (drop n) e ∙ drop_at long (61 ∷ value) n (sym len))
 
--- the source that is pushed is the part that stands first
+-- the source that is pushed becomes the first part
 pub parts_pushed : (items new : List InputSource) (source : InputSource) → new ≡ items ++ source ∷ [] → reverse (map input_part_of new) ≡ input_part_of source ∷ reverse (map input_part_of items)
 parts_pushed items new source e = ap (λ l. reverse (map input_part_of l)) e ∙ ap reverse (map-append input_part_of items (source ∷ [])) ∙ reverse-append (map input_part_of items) (input_part_of source ∷ [])
 
--- a refusal of each answer is one of each that follows from it
+-- if each result in `P` is one in `Q`, an error that is in `P` is in `Q`
 pub refusal_then : (fault : UsageError) {P Q : ParsedAs → Type 0} → ((answer : ParsedAs) → P answer → Q answer) → IfSome (rejection_of fault) P → IfSome (rejection_of fault) Q
 refusal_then fault f h = IfSome_then (rejection_of fault) h f
 
--- - as a file is standard input
+-- `-` as a file is standard input
 pub sets_stdin : (old new : Options) → Sets Input (codes "-") old new → new ≡ record old { parts = stdin ∷ old.parts }
 sets_stdin old new sets = at sets.0 sets.1 sets.2
   where
@@ -43,17 +43,17 @@ sets_stdin old new sets = at sets.0 sets.1 sets.2
     at (file name) is e = absurd (is.0 refl)
     at (symbols lines) is e = absurd is
 
--- no word is left, and no value awaited
+-- no argument is left, and no option needs its value
 pub ends_there : (there : NextArgument) (o : Options) (arguments : List (List ℕ)) → arguments ≡ [] → (there ≡ next.Anything) ⊎ (there ≡ next.Symbol) → ParsesTo (expected_of there) o arguments (filter o)
 ends_there there o arguments none (inl e) = subst (λ n. ParsesTo (expected_of n) o arguments (filter o)) (sym e) (subst (λ ws. ParsesTo anything o ws (filter o)) (sym none) ends)
 ends_there there o arguments none (inr e) = subst (λ n. ParsesTo (expected_of n) o arguments (filter o)) (sym e) (subst (λ ws. ParsesTo a_symbol o ws (filter o)) (sym none) ends_symbols)
 
--- no word is left, and the value of an option is awaited
+-- no argument is left, and an option needs its value
 pub lacks_there : (there : NextArgument) (o : Options) (arguments : List (List ℕ)) (option : ValuedOption) (argument : Bor (List ℕ)) → arguments ≡ [] → there ≡ next.Value option argument
     → ParsesTo (expected_of there) o arguments (missing_value_error option argument.now)
 lacks_there there o arguments option argument none e =
     subst (λ n. ParsesTo (expected_of n) o arguments (missing_value_error option argument.now)) (sym e) (subst (λ ws. ParsesTo (a_value option argument.now) o ws (missing_value_error option argument.now)) (sym none) misses_value)
 
--- the words behind the last
+-- the arguments after the last one
 pub arguments_left : {X : Type 0} (f : X → List ℕ) (xs : List X) (n : ℕ) → length xs ≤ n → map f (drop n xs) ≡ []
 arguments_left f xs n all = ap (map f) (drop_all n xs all)

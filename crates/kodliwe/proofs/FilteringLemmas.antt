@@ -1,4 +1,4 @@
--- Texts that are filtered in turn.
+-- Texts that are filtered in sequence.
 use Rattle.std.proofs.Common.{◌≡◌, ℕ, zero, ◌++◌, Bool, List, [], ◌∷◌, None, Some, IfSome, Ok, Err, IfErr, refl, sym, ap, subst, ◌∙◌, append_assoc, append-nil, length, arith}
 use Rattle.std.specs.declared.option.Option.{Option}
 use Rattle.std.specs.declared.result.Result.{Result}
@@ -15,7 +15,7 @@ use Rattle.rustc_demangle.specs.declared.stream.fault.StreamFault.TheVariants.{R
 use Rattle.rustc_demangle.proofs.ByteStreamLemmas.{Passing, passed_none, passed_trans}
 use Rattle.kodliwe.specs.Filtering.{FlushStepFiltered, all_filtered, Remain, WroteAll, StoppedIn, WrotePrefix, RunStopped}
 
--- what grew after a flush grew before it
+-- bytes that were appended after a flush were appended since before it
 kept_appends : (a b c : Option (List ℕ)) (bs : List ℕ) → Keeps a b → Appends b c bs → Appends a c bs
 kept_appends None b c bs p q = tt
 kept_appends (Some x) None c bs p q = absurd p
@@ -36,7 +36,7 @@ pub ended_later : (f : List ℕ → List ℕ) (pending next : List ℕ) (left re
     → StepFinished (filtered_by f zero) pending next left rest old new
 ended_later f pending next left rest old mid new keeps ended = (ended.0, ended.1, kept_appends old mid new _ keeps ended.2)
 
--- what was refused after a flush: nothing was filtered in this turn
+-- a step that failed after a flush: nothing was filtered in this iteration
 pub refused_later : (fault : StreamFault) (f : List ℕ → List ℕ) (pending next : List ℕ) (left rest old mid new : Option (List ℕ)) → Keeps old mid
     → StepFailed fault pending next left rest mid new → IfSome left (λ xs. BytesStopped (filtered_by f zero) fault (pending ++ xs) old new)
 refused_later fault f pending next None rest old mid new keeps refused = tt
@@ -52,7 +52,7 @@ pub turn_refused : (r : Result Bool StreamFault) (f : List ℕ → List ℕ) (pe
 turn_refused (Ok b) f pending next left rest old mid new keeps refused = tt
 turn_refused (Err fault) f pending next left rest old mid new keeps refused = refused_later fault f pending next left rest old mid new keeps refused
 
--- a flush that was refused
+-- a flush that failed
 pub writing_stopped : (fault : StreamFault) (f : List ℕ → List ℕ) (pending : List ℕ) (left old new : Option (List ℕ)) → IsWriting fault
     → IfSome left (λ xs. BytesStopped (filtered_by f zero) fault (pending ++ xs) old new)
 writing_stopped fault f pending None old new w = tt
@@ -70,7 +70,7 @@ kept_some None rest text e keeps = absurd (subst (λ o. IsNoText o) e tt)
 kept_some (Some xs) None text e keeps = absurd keeps
 kept_some (Some xs) (Some ys) text e keeps = ap Some keeps ∙ e
 
--- a step that the reader refused took nothing
+-- a step whose reader failed used nothing
 pub took_none : (fault : Error) (f : List ℕ → List ℕ) (pending next : List ℕ) (left rest old new : Option (List ℕ)) → StepFailed (Read fault) pending next left rest old new
     → FlushStepFiltered (filtered_by f zero) pending next left rest old new
 took_none fault f pending next None rest old new refused = tt
@@ -85,7 +85,7 @@ pub took_refused : (r : Result Bool StreamFault) (fault : Error) (f : List ℕ �
 took_refused r fault f pending next left rest old new e refused =
     took_none fault f pending next left rest old new (subst (λ q. IfErr q (λ s. StepFailed s pending next left rest old new)) e refused)
 
--- a step of the filter is a turn
+-- a step of the filter is an iteration
 pub step_turn : (f : List ℕ → List ℕ) (pending next : List ℕ) (left rest old new : Option (List ℕ)) → StepFiltered (filtered_by f zero) pending next left rest old new
     → FlushStepFiltered (filtered_by f zero) pending next left rest old new
 step_turn f pending next None rest old new took = tt
@@ -98,7 +98,7 @@ passing_turn f (Some text) pending next left rest old mid new p took =
     let q = MatchOption-at_some ⊤ (λ xs. (ys : List ℕ) × (rest ≡ Some ys) × FilteredPrefix (filtered_by f zero) (pending ++ xs) (next ++ ys) mid new) p.0 p.1 took in
     (q.0, q.1, passed_trans f text (pending ++ p.0) _ old mid new p.2 q.2)
 
--- a turn that stopped
+-- an iteration that stopped
 pub turning_err : (fault : StreamFault) (f : List ℕ → List ℕ) (held : Option (List ℕ)) (pending : List ℕ) (left old mid new : Option (List ℕ)) → Passing f held pending left old mid
     → IfSome left (λ xs. BytesStopped (filtered_by f zero) fault (pending ++ xs) mid new) → IfSome held (λ text. BytesStopped (filtered_by f zero) fault text old new)
 turning_err fault f None pending left old mid new p stopped = tt
@@ -117,17 +117,17 @@ pub wrote_end : (f : List ℕ → List ℕ) (held rest old new : Option (List �
 wrote_end f None rest old new ended = tt
 wrote_end f (Some text) rest old new ended = ended.1
 
--- a buffer that is new holds what its reader holds
+-- a new buffer has the contents of its reader
 pub same_remaining : (held : Option (List ℕ)) → prepend_known [] held ≡ held
 same_remaining None = refl
 same_remaining (Some text) = refl
 
--- nothing was filtered of a text
+-- nothing of a text was filtered
 pub stopped_none : (f : List ℕ → List ℕ) (held old : Option (List ℕ)) → IfSome held (λ text. BytesStopped (filtered_by f zero) Memory text old old)
 stopped_none f None old = tt
 stopped_none f (Some text) old = (text, passed_none f text text old refl)
 
--- what was filtered of all texts, and what the readers that are left hold
+-- the filtered texts so far, and the contents of the remaining readers
 pub record Filtering (f : List ℕ → List ℕ) (all held : List (Option (List ℕ))) (old new : Option (List ℕ)) : Type 0 where
   pub parts : (texts : List (List ℕ)) → Remain all texts
       → (done : List (List ℕ)) × (rest : List (List ℕ)) × (texts ≡ done ++ rest) × Remain held rest × Appends old new (all_filtered (filtered_by f zero) done)
@@ -139,7 +139,7 @@ filtered_push : (f : List ℕ → List ℕ) (done : List (List ℕ)) (text : Lis
 filtered_push f [] text = append-nil (filtered_by f zero text)
 filtered_push f (t ∷ done) text = ap (λ l. filtered_by f zero t ++ l) (filtered_push f done text) ∙ sym (append_assoc (filtered_by f zero t) (all_filtered (filtered_by f zero) done) (filtered_by f zero text))
 
--- one reader was filtered whole
+-- one reader was filtered to its end
 pub filtering_step : (f : List ℕ → List ℕ) (all now : List (Option (List ℕ))) (first : Option (List ℕ)) (held : List (Option (List ℕ))) (old mid new : Option (List ℕ))
     → Filtering f all now old mid → now ≡ first ∷ held → IfSome first (λ text. Appends mid new (filtered_by f zero text)) → Filtering f all held old new
 filtering_step f all now first held old mid new inv e wrote = record {
@@ -154,7 +154,7 @@ filtering_step f all now first held old mid new inv e wrote = record {
         let more : Appends mid new (filtered_by f zero t) = MatchOption-at_some ⊤ (λ text. Appends mid new (filtered_by f zero text)) t are.0 wrote in
         (done ++ t ∷ [], rest, e ∙ sym (append_assoc done (t ∷ []) rest), are.1, subst (Appends old new) (sym (filtered_push f done t)) (Appends-trans old mid new _ _ grew more))
 
--- all of them were
+-- all texts were filtered
 pub filtering_end : (f : List ℕ → List ℕ) (all now : List (Option (List ℕ))) (old mid new : Option (List ℕ)) → Filtering f all now old mid → now ≡ [] → Keeps mid new → WroteAll (filtered_by f zero) all old new
 filtering_end f all now old mid new inv none keeps = λ texts is. let p = inv.parts texts is in at texts p.0 p.1 p.2 (subst (λ l. Remain l p.1) none p.3) p.4
   where
@@ -195,7 +195,7 @@ writing_run NotUtf8 f all old new w = absurd w
 writing_run (Write e) f all old new w = tt
 writing_run Memory f all old new w = absurd w
 
--- a fault that is not the writer's
+-- an error that is not the writer's
 pub not_writing : (fault : StreamFault) (f : List ℕ → List ℕ) (all : List (Option (List ℕ))) (old new : Option (List ℕ)) → (IsWriting fault → ⊥) → RunStopped fault (filtered_by f zero) all old new
     → WrotePrefix (filtered_by f zero) all old new
 not_writing (Read e) f all old new n stopped = stopped
@@ -203,7 +203,7 @@ not_writing NotUtf8 f all old new n stopped = stopped
 not_writing (Write e) f all old new n stopped = absurd (n tt)
 not_writing Memory f all old new n stopped = stopped
 
--- at the writer that a join of branches has
+-- for the writer after the branches join
 pub prefix_joined : {W : Type 0} (contents : W → Option (List ℕ)) (f : List ℕ → List ℕ) (all : List (Option (List ℕ))) (old : Option (List ℕ)) (new next : W) → next ≡ new
     → WrotePrefix (filtered_by f zero) all old (contents new) → WrotePrefix (filtered_by f zero) all old (contents next)
 prefix_joined contents f all old new next e wrote = subst (λ w. WrotePrefix (filtered_by f zero) all old (contents w)) (sym e) wrote
@@ -212,13 +212,13 @@ pub nothing_left : {X : Type 0} (l : List X) → length l ≡ 0 → l ≡ []
 nothing_left [] f = refl
 nothing_left (x ∷ xs) f = absurd (omega (arith, f))
 
--- a flush leaves what was written of the texts
+-- a flush does not change the filtered texts that were written
 pub prefix_kept : (f : List ℕ → List ℕ) (all : List (Option (List ℕ))) (old mid new : Option (List ℕ)) → WrotePrefix (filtered_by f zero) all old mid → Keeps mid new → WrotePrefix (filtered_by f zero) all old new
 prefix_kept f all old mid new wrote keeps = λ texts is.
     let s = wrote texts is in
     record { before = s.before; prefix = s.prefix; left = s.left; following = s.following; whole = s.whole; uncut = s.uncut; wrote = Appends-kept old mid new _ s.wrote keeps }
 
--- a turn with a memo of the same value
+-- an iteration with a memo of the same value
 pub turn_same : (m n : Format) (pending next : List ℕ) (left rest old new : Option (List ℕ)) → m ≡ n → FlushStepFiltered (filtered_in m) pending next left rest old new
     → FlushStepFiltered (filtered_in n) pending next left rest old new
 turn_same m n pending next left rest old new same = subst (λ (v : Format). FlushStepFiltered (filtered_in v) pending next left rest old new) same
@@ -228,7 +228,7 @@ pub refused_same : (m n : Format) (fault : StreamFault) (pending : List ℕ) (le
     → IfSome left (λ text. BytesStopped (filtered_in n) fault (pending ++ text) old new)
 refused_same m n fault pending left old new same = subst (λ (v : Format). IfSome left (λ text. BytesStopped (filtered_in v) fault (pending ++ text) old new)) same
 
--- what a reader held, filtered with a memo of the same value
+-- the contents of a reader, filtered with a memo of the same value
 pub reader_same : (m n : Format) (held old new : Option (List ℕ)) → m ≡ n → IfSome held (λ text. Appends old new (filtered_in m text))
     → IfSome held (λ text. Appends old new (filtered_in n text))
 reader_same m n held old new same = subst (λ (v : Format). IfSome held (λ text. Appends old new (filtered_in v text))) same
@@ -237,7 +237,7 @@ pub stopped_same : (m n : Format) (fault : StreamFault) (held old new : Option (
     → IfSome held (λ text. BytesStopped (filtered_in n) fault text old new)
 stopped_same m n fault held old new same = subst (λ (v : Format). IfSome held (λ text. BytesStopped (filtered_in v) fault text old new)) same
 
--- the first of the readers that are left, where another one wraps it
+-- the first of the remaining readers, wrapped by another one
 pub first_wrapped : {R : Type 0} (remaining : R → Option (List ℕ)) (now : List (Option (List ℕ))) (first wrapped : R)
     (held : List (Option (List ℕ))) → now ≡ remaining first ∷ held → wrapped ≡ first → now ≡ remaining wrapped ∷ held
 first_wrapped remaining now first wrapped held e same = e ∙ ap (λ r. remaining r ∷ held) (sym same)

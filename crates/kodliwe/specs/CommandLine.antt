@@ -127,8 +127,8 @@ pub record IsUnknown (argument : List ℕ) : Type 0 where
   pub no_output : IsNotOption (codes "-o") (codes "--output") argument
   pub no_limit : IsNotOption (codes "-l") (codes "--limit") argument
 
--- The result of parsing the remaining arguments. The first one has the meaning of the `ExpectedArgument`, and the options were
--- read before.
+-- The result of parsing the remaining arguments. The first one has the meaning of the `ExpectedArgument`, and the
+-- options were read before.
 pub data ParsesTo : ExpectedArgument → Options → List (List ℕ) → ParsedAs → Type 0 where
   ends : {o : Options} → ParsesTo anything o [] (filter o)
   takes_symbol : {o : Options} {w : List ℕ} {ws : List (List ℕ)} {a : ParsedAs} → starts_with nat_eq w (codes "-") ≡ false

@@ -93,7 +93,9 @@ pub enum ValuedOption {
 #[derive(Clone, Copy, Drop)]
 pub enum Argument<'a> {
     Symbol,
+    /// `-`.
     Stdin,
+    /// `--`.
     End,
     /// An option, with its value if the argument includes it.
     Valued(ValuedOption, Option<&'a str>),
@@ -101,6 +103,7 @@ pub enum Argument<'a> {
     Fold,
     Help,
     Version,
+    /// Any other argument that starts with `-`.
     Unknown,
 }
 

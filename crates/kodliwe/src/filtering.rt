@@ -245,9 +245,9 @@ fn outcome_of(fault: &StreamFault) -> FilterOutcome
 /// an input can't be read, the output can't be written, or memory can't be allocated. Writes a note
 /// on each input that is compressed or encoded.
 ///
-/// On `Complete`, the writer appended the filtered form of all that the readers still held. On
-/// `ReadFailed`, it appended the filtered inputs before one input, and a filtered prefix of that one.
-/// The prefix is not cut inside a symbol. Nothing is known of the bytes that a writer accepted in a
+/// On `Complete`, the writer appended the filtered form of all remaining input. On `ReadFailed`, it
+/// appended the filtered inputs before one input, and a filtered prefix of that one. The prefix is
+/// not cut inside a symbol. Nothing is known of the bytes that a writer accepted in a
 /// call that failed. All that was written before is flushed in any case. An error of `errors` is
 /// ignored.
 pub fn filter_all<R: Read + Drop, W: Write, E: Write>(

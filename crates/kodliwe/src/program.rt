@@ -188,8 +188,8 @@ fn reads_output<F: Files, E: Write>(
     }
 }
 
-/// Adds standard input if there are no sources, and then writes a note if it is a terminal. Fails if
-/// memory can't be allocated.
+/// Adds standard input if there are no sources, and then writes a note if it is a terminal. Fails
+/// if memory can't be allocated.
 fn read_default<E: Write>(
     stdin: &Stdin,
     errors: &mut E,

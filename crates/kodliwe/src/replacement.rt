@@ -111,9 +111,13 @@ fn open_next_to<F: Files>(
     create_temporary(alloc, files, path)
 }
 
-/// Opens a file for writing. An existing file that is not a device or a pipe is replaced when the
-/// new file is complete. The new file has its permissions. Fails if the file or its folder can't be
-/// used, or memory can't be allocated.
+/// Opens the output file for a path. Returns the file, and the replacement to finish when the file
+/// is complete.
+///
+/// If a regular file or nothing is at the path, creates a new file next to it. The new file gets
+/// the permissions of the one that it replaces. Opens anything else, such as a device or a pipe,
+/// itself, and returns no replacement. Fails if the file or its folder can't be used, or memory
+/// can't be allocated.
 pub fn open_output<F: Files>(
     alloc: Global,
     files: &F,

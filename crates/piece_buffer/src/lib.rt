@@ -46,6 +46,7 @@ fn copy(piece: &[u8], room: &mut [u8])
 #[derive(Drop)]
 pub struct PieceBuffer {
     bytes: [u8; CAPACITY],
+    /// The number of bytes that are in use, from the start.
     len: usize,
 }
 

@@ -1,4 +1,4 @@
--- A text of any bytes, part by part.
+-- Any bytes, filtered in parts.
 use Rattle.std.proofs.Common.{◌≡◌, ℕ, zero, suc, ◌+◌, ◌-◌, ◌*◌, ◌<◌, ◌≤◌, ◌⊎◌, inl, inr, ◌&&◌, ◌||◌, Bool, true, false, eqb, eqb-true, cond, List, [], ◌∷◌, ◌++◌, length, take, drop, get_or, None, Some, IfSome, refl, sym, ap, subst, ◌∙◌, arith, append_assoc, append-nil, length-drop, length-append, take_all, codes, nat_eq}
 use Rattle.std.specs.List.{prefix_len, list_all, starts_with}
 use Rattle.std.specs.Cmp.Lexicographic.{pointwise}
@@ -26,7 +26,7 @@ use Rattle.rustc_demangle.specs.declared.stream.fault.StreamFault.TheVariants.{R
 use Rattle.rustc_demangle.proofs.Searches.{no_mark}
 use Rattle.rustc_demangle.proofs.RunLemmas.{run_ascii, turn, begins_with, first_of_run, filtered_run, filtered_all}
 
--- what begins a run begins one whatever follows
+-- a text that starts a run does so whatever follows
 pub begins_more : (s t : List ℕ) → starts_run s ≡ true → starts_run (s ++ t) ≡ true
 begins_more s t some = elim ((begins_with s some).1) [
   | inl e ↦ ap (λ l. starts_run (l ++ t)) e
@@ -40,7 +40,7 @@ begins_less s t none = at (starts_run s) refl
     at true e = absurd (true≢false (sym (begins_more s t e) ∙ none))
     at false e = e
 
--- two characters that begin no run, and are no `_Z`
+-- two bytes that start no run, and are not `_Z`
 two : (c d : ℕ) (more : List ℕ) → starts_run (c ∷ d ∷ []) ≡ false → ((c ∷ d ∷ []) ≡ codes "_Z" → ⊥) → starts_run (c ∷ d ∷ more) ≡ false
 two c d more none not = at (eqb 95 c) refl (eqb 90 d) refl (eqb 82 d) none
   where
@@ -51,21 +51,21 @@ two c d more none not = at (eqb 95 c) refl (eqb 90 d) refl (eqb 82 d) none
     at true e false ez true h = absurd (true≢false h)
     at true e false ez false h = refl
 
--- what begins no run, and is no beginning of one, begins none whatever follows
+-- a text that starts no run, and is no prefix of such a start, starts none whatever follows
 pub begins_never : (s more : List ℕ) → starts_run s ≡ false → (s ≡ [] → ⊥) → (s ≡ codes "_" → ⊥) → (s ≡ codes "_Z" → ⊥) → starts_run (s ++ more) ≡ false
 begins_never [] more none a b d = absurd (a refl)
 begins_never (c ∷ []) more none a b d = no_mark c more (λ e. b (ap (λ k. k ∷ []) (eqb-true c 95 e)))
 begins_never (c ∷ x ∷ []) more none a b d = two c x more none d
 begins_never (c ∷ x ∷ y ∷ s) more none a b d = none
 
--- where no run begins in a front, none is cut
+-- if no run starts in a prefix, the prefix splits none
 pub cuts_kept : (kept left : List ℕ) → ((k : ℕ) → k < length kept → starts_run (drop k (kept ++ left)) ≡ false) → SplitsNoRun kept left
 cuts_kept kept left none = λ before run e some all begins.
     let at : kept ++ left ≡ before ++ (run ++ left) = ap (λ l. l ++ left) e ∙ append_assoc before run left in
     let here : drop (length before) (kept ++ left) ≡ run ++ left = ap (drop (length before)) at ∙ drop-append_seam before (run ++ left) in
     absurd (true≢false (sym begins ∙ ap starts_run (sym here) ∙ none (length before) (omega (arith, ap length e, length-append before run))))
 
--- all of a text are run characters where its longest prefix of such is all of it
+-- a text has only run bytes if its longest prefix of run bytes is all of it
 all_of_prefix : (s : List ℕ) → prefix_len is_run_byte s ≡ length s → list_all is_run_byte s ≡ true
 all_of_prefix [] e = refl
 all_of_prefix (c ∷ s) e = at (all_of_prefix s) (is_run_byte c) e
@@ -74,7 +74,7 @@ all_of_prefix (c ∷ s) e = at (all_of_prefix s) (is_run_byte c) e
     at ih true e = ih (omega (arith, e))
     at ih false e = absurd (omega (arith, e))
 
--- the longest prefix of run characters
+-- the longest prefix of run bytes
 pub all_prefix : (s : List ℕ) → list_all is_run_byte (take (prefix_len is_run_byte s) s) ≡ true
 all_prefix [] = refl
 all_prefix (c ∷ s) = at (all_prefix s) (is_run_byte c) refl
@@ -85,11 +85,11 @@ all_prefix (c ∷ s) = at (all_prefix s) (is_run_byte c) refl
         ap (λ n. list_all is_run_byte (take n (c ∷ s))) one ∙ ap (λ b. b && list_all is_run_byte (take (prefix_len is_run_byte s) s)) e ∙ ih
     at ih false e = refl
 
--- what is cut off behind it is a run
+-- the bytes that are split off are a run
 pub all_cut : (found bytes run : List ℕ) (n : ℕ) → bytes ≡ found → n ≡ prefix_len is_run_byte bytes → run ≡ take n found → list_all is_run_byte run ≡ true
 all_cut found bytes run n same len prefix = ap (list_all is_run_byte) (prefix ∙ ap (λ k. take k found) (len ∙ ap (prefix_len is_run_byte) same)) ∙ all_prefix found
 
--- and what it is of a text of run characters alone
+-- the longest such prefix of a text that has only run bytes
 prefix_of_all : (s : List ℕ) → list_all is_run_byte s ≡ true → prefix_len is_run_byte s ≡ length s
 prefix_of_all [] all = refl
 prefix_of_all (c ∷ s) all = at (prefix_of_all s) (is_run_byte c) all
@@ -98,7 +98,7 @@ prefix_of_all (c ∷ s) all = at (prefix_of_all s) (is_run_byte c) all
     at ih true h = omega (arith, ih h)
     at ih false h = absurd (true≢false (sym h))
 
--- what follows it
+-- the byte after it
 pub after_prefix : (s more : List ℕ) → prefix_len is_run_byte s < length s → StartsOutsideRun (drop (prefix_len is_run_byte s) s ++ more)
 after_prefix [] more lt = absurd (omega (arith, lt))
 after_prefix (c ∷ s) more lt = at (after_prefix s more) (is_run_byte c) refl lt
@@ -116,7 +116,7 @@ no_prefix (c ∷ s) h = ap (λ b. cond b (1 + prefix_len is_run_byte s) 0) h
 run_first : (c : ℕ) (s : List ℕ) → starts_run (c ∷ s) ≡ true → is_run_byte c ≡ true
 run_first c s some = ap is_run_byte (first_of_run (c ∷ s) some)
 
--- a run that is not cut is as long
+-- a run that is not split has the same length
 same_len : (c : ℕ) (a b : List ℕ) → SplitsNoRun (c ∷ a) b → starts_run (c ∷ (a ++ b)) ≡ true → prefix_len is_run_byte (a ++ b) ≡ prefix_len is_run_byte a
 same_len c a b cut some = prefix_len-append is_run_byte a b ∙ at (eqb (prefix_len is_run_byte a) (length a)) refl
   where
@@ -128,7 +128,7 @@ same_len c a b cut some = prefix_len-append is_run_byte a b ∙ at (eqb (prefix_
         omega (arith, full, none)
     at false e = refl
 
--- and it begins where it began
+-- the run starts in the first part, without the second
 same_begin : (c : ℕ) (a b : List ℕ) → SplitsNoRun (c ∷ a) b → starts_run (c ∷ (a ++ b)) ≡ true → starts_run (c ∷ a) ≡ true
 same_begin c [] [] cut some = some
 same_begin c [] (x ∷ b) cut some =
@@ -150,7 +150,7 @@ same_begin c (x ∷ y ∷ a) b cut some = some
 tail : (c : ℕ) (a b : List ℕ) → SplitsNoRun (c ∷ a) b → SplitsNoRun a b
 tail c a b cut = λ before run e some all begins. cut (c ∷ before) run (ap (λ l. c ∷ l) e) some all begins
 
--- a text that is filtered in two parts of which the first cuts no run
+-- a text that is filtered in two parts, of which the first splits no run
 split_from : (f : List ℕ → List ℕ) (a b : List ℕ) (k : ℕ) → k ≤ length a → SplitsNoRun a b → filtered_by f k (a ++ b) ≡ filtered_by f k a ++ filtered_by f zero b
 unfolding by_runs
 split_from f [] b zero le cut = refl
@@ -178,7 +178,7 @@ split_from f (c ∷ a) b zero le cut = at (λ k le. split_from f a b k le (tail 
 pub filtered_split : (f : List ℕ → List ℕ) (a b : List ℕ) → SplitsNoRun a b → filtered_by f zero (a ++ b) ≡ filtered_by f zero a ++ filtered_by f zero b
 filtered_split f a b cut = split_from f a b zero (omega arith) cut
 
--- nothing was passed
+-- nothing was filtered
 pub passed_none : (f : List ℕ → List ℕ) (held left : List ℕ) (old : Option (List ℕ)) → held ≡ left → FilteredPrefix (filtered_by f zero) held left old old
 unfolding by_runs
 passed_none f held left old e = record {
@@ -188,7 +188,7 @@ passed_none f held left old e = record {
   wrote = Appends-nil old;
 }
 
--- where two parts meet, behind a place in the first or in the second
+-- two parts that are joined, and a division in the first or in the second
 seam : (a b before run : List ℕ) → a ++ b ≡ before ++ run
     → ((x : List ℕ) × (a ≡ before ++ x) × (run ≡ x ++ b)) ⊎ ((y : List ℕ) × (b ≡ y ++ run))
 seam [] b before run e = inr (before, e)
@@ -214,7 +214,7 @@ past_all : (a b : List ℕ) → list_all is_run_byte a ≡ true → StartsOutsid
 past_all [] b all h = h
 past_all (c ∷ a) b all h = absurd (true≢false (sym (and_left (is_run_byte c) (list_all is_run_byte a) all) ∙ h))
 
--- two fronts, one behind the other
+-- two prefixes, of which the second follows the first
 cuts_both : (a b left : List ℕ) → SplitsNoRun a (b ++ left) → SplitsNoRun b left → SplitsNoRun (a ++ b) left
 cuts_both a b left first second = λ before run e some all begins. elim (seam a b before run e) [
   | inl p ↦ at before run some all begins p.0 p.1 p.2
@@ -244,7 +244,7 @@ passed_trans f held mid left old between new p q =
           (Appends-trans old between new _ _ p.wrote q.wrote);
     }
 
--- a text in which no run begins is kept
+-- a text in which no run starts is unchanged
 pub passed_kept : (f : List ℕ → List ℕ) (held kept left : List ℕ) (old new : Option (List ℕ)) → held ≡ kept ++ left
     → ((k : ℕ) → k < length kept → starts_run (drop k held) ≡ false) → Appends old new kept → FilteredPrefix (filtered_by f zero) held left old new
 passed_kept f held kept left old new e none wrote =
@@ -257,7 +257,7 @@ passed_kept f held kept left old new e none wrote =
       wrote = subst (Appends old new) (sym (filtered_all f kept here)) wrote;
     }
 
--- a run is what stands for it
+-- a run is replaced
 pub filtered_whole : (f : List ℕ → List ℕ) (run : List ℕ) → starts_run run ≡ true → list_all is_run_byte run ≡ true → filtered_by f zero run ≡ f run
 unfolding by_runs
 filtered_whole f run some all =
@@ -268,7 +268,7 @@ filtered_whole f run some all =
     ∙ ap (λ l. f run ++ filtered_by f zero l) (drop_all n run (omega (arith, full)))
     ∙ append-nil (f run)
 
--- a front behind which no run goes on is filtered
+-- a prefix after which no run continues is filtered
 pub passed_prefix : (f : List ℕ → List ℕ) (held prefix left : List ℕ) (old new : Option (List ℕ)) → held ≡ prefix ++ left → StartsOutsideRun left
     → Appends old new (filtered_by f zero prefix) → FilteredPrefix (filtered_by f zero) held left old new
 passed_prefix f held prefix left old new e stop wrote = record {
@@ -278,7 +278,7 @@ passed_prefix f held prefix left old new e stop wrote = record {
   wrote = wrote;
 }
 
--- which open texts are runs
+-- the partial runs that are runs
 open_run : (s : List ℕ) → IsPartialRun s → starts_run s ≡ true → list_all is_run_byte s ≡ true
 open_run s (inl e) some = absurd (true≢false (sym some ∙ ap starts_run e))
 open_run s (inr (inl e)) some = absurd (true≢false (sym some ∙ ap starts_run e))
@@ -295,14 +295,14 @@ finished_kept f s (inr (inl e)) none = e ∙ sym (ap (filtered_by f zero) e)
 finished_kept f s (inr (inr (inl e))) none = e ∙ sym (ap (filtered_by f zero) e)
 finished_kept f s (inr (inr (inr run))) none = absurd (true≢false (sym run.0 ∙ none))
 
--- a run that goes on is one
+-- a run that is continued is a run
 pub more_run : (a s : List ℕ) (n : ℕ) → starts_run a ≡ true → list_all is_run_byte a ≡ true → n ≡ prefix_len is_run_byte s → (b : List ℕ) → b ≡ a ++ take n s
     → (starts_run b ≡ true) × (list_all is_run_byte b ≡ true)
 more_run a s n some all count b e =
     let last : list_all is_run_byte (take n s) ≡ true = ap (λ m. list_all is_run_byte (take m s)) count ∙ all_prefix s in
     (ap starts_run e ∙ begins_more a (take n s) some, ap (list_all is_run_byte) e ∙ list_all-append is_run_byte a (take n s) ∙ ap (λ t. t && list_all is_run_byte (take n s)) all ∙ last)
 
--- what was taken of the shown bytes stands behind what was carried
+-- the used bytes follow the pending text
 pub moved : (a b available more : List ℕ) (n : ℕ) → b ≡ a ++ take n available → a ++ (available ++ more) ≡ b ++ (drop n available ++ more)
 moved a b available more n e =
     ap (λ l. a ++ (l ++ more)) (sym (take-append-drop n available))
@@ -310,14 +310,14 @@ moved a b available more n e =
     ∙ sym (append_assoc a (take n available) (drop n available ++ more))
     ∙ ap (λ l. l ++ (drop n available ++ more)) (sym e)
 
--- a carried run that ends in the shown bytes
+-- a pending run that ends in the available bytes
 pub run_ended : (f : List ℕ → List ℕ) (a b next available : List ℕ) (n : ℕ) (old new : Option (List ℕ)) → b ≡ a ++ take n available → n ≡ prefix_len is_run_byte available → n < length available → next ≡ []
     → Appends old new (filtered_by f zero b) → (more : List ℕ) → FilteredPrefix (filtered_by f zero) (a ++ (available ++ more)) (next ++ (drop n available ++ more)) old new
 run_ended f a b next available n old new e count lt none wrote more =
     let stop : StartsOutsideRun (drop n available ++ more) = subst (λ m. StartsOutsideRun (drop m available ++ more)) (sym count) (after_prefix available more (omega (arith, count))) in
     passed_prefix f _ b _ old new (moved a b available more n e ∙ ap (λ l. b ++ (l ++ (drop n available ++ more))) (sym none)) (subst (λ l. StartsOutsideRun (l ++ (drop n available ++ more))) (sym none) stop) wrote
 
--- the beginning of a run does not go on
+-- a partial prefix of a run that the next byte does not continue
 pub not_on : (a : List ℕ) (c : ℕ) (more : List ℕ) → (length a ≡ 1 → ⊥) → (a ≡ codes "_") ⊎ (a ≡ codes "_Z") → eqb c 78 ≡ false → SplitsNoRun a (c ∷ more)
 not_on a c more long (inl e) h = absurd (long (ap length e))
 not_on a c more long (inr e) h = subst (λ l. SplitsNoRun l (c ∷ more)) (sym e) (cuts_kept (codes "_Z") (c ∷ more) at)
@@ -327,7 +327,7 @@ not_on a c more long (inr e) h = subst (λ l. SplitsNoRun l (c ∷ more)) (sym e
     at (suc zero) lt = refl
     at (suc (suc k)) lt = absurd (omega (arith, lt))
 
--- what the ends of a text tell of the beginnings in it
+-- the last bytes of a text determine whether a run may start in them
 pub uncut_one : (text : List ℕ) → true ≡ pointwise nat_eq (codes "_") (drop (length text - 1) text) → ((k : ℕ) → k < length text → starts_run (drop k text) ≡ false)
     → (more : List ℕ) (k : ℕ) → k < length text - 1 → starts_run (drop k text ++ more) ≡ false
 uncut_one text last none more k lt =
@@ -359,7 +359,7 @@ uncut_none text last both none more k lt =
     (λ e. let at : k ≡ length text - 2 = omega (arith, ap length e, len) in
     true≢false (ap (pointwise nat_eq (codes "_Z")) (sym e ∙ ap (λ n. drop n text) at) ∙ sym both))
 
--- what is long enough begins a run or never does
+-- a text of at least three bytes starts a run, or does not whatever follows
 pub far : (available : List ℕ) (start : ℕ) → starts_run (drop start available) ≡ true → ((k : ℕ) → k < start → starts_run (drop k available) ≡ false)
     → (more : List ℕ) (k : ℕ) → k < start → starts_run (drop k available ++ more) ≡ false
 far available start some none more k lt =
@@ -371,7 +371,7 @@ far available start some none more k lt =
     (λ e. absurd (omega (arith, ap length e, len, here, two)))
     (λ e. absurd (omega (arith, ap length e, len, here, two)))
 
--- a text up to a place, in front of which no run begins
+-- a text up to a place before which no run starts
 prefix_kept : (f : List ℕ → List ℕ) (a available kept left : List ℕ) (n : ℕ) (old new : Option (List ℕ)) → a ≡ [] → kept ≡ take n available → n ≤ length available
     → ((more : List ℕ) (k : ℕ) → k < n → starts_run (drop k available ++ more) ≡ false) → Appends old new kept
     → (more : List ℕ) → left ≡ drop n available ++ more → FilteredPrefix (filtered_by f zero) (a ++ (available ++ more)) left old new
@@ -383,7 +383,7 @@ prefix_kept f a available kept left n old new nil prefix le none wrote more foll
     (λ k lt. ap (λ l. starts_run (drop k l)) held ∙ ap starts_run (drop-append-le k available more (omega (arith, len))) ∙ none more k (omega (arith, len)))
     wrote
 
--- the same, where what is behind the place is carried
+-- the same, if the text after the place becomes pending
 pub text_kept : (f : List ℕ → List ℕ) (a available kept beginning next : List ℕ) (n : ℕ) (old new : Option (List ℕ)) → a ≡ [] → kept ≡ take n available → beginning ≡ drop n available
     → next ≡ a ++ beginning → n ≤ length available → ((more : List ℕ) (k : ℕ) → k < n → starts_run (drop k available ++ more) ≡ false) → Appends old new kept
     → (more : List ℕ) → FilteredPrefix (filtered_by f zero) (a ++ (available ++ more)) (next ++ (drop (length available) available ++ more)) old new
@@ -391,7 +391,7 @@ text_kept f a available kept beginning next n old new nil prefix back pending le
     prefix_kept f a available kept _ n old new nil prefix le none wrote more
     (ap (λ l. next ++ (l ++ more)) (drop_all (length available) available (omega arith)) ∙ ap (λ l. l ++ more) (pending ∙ ap (λ l. l ++ beginning) nil ∙ back))
 
--- a run that ends in the shown bytes, and the text in front of it
+-- a run that ends in the available bytes, and the text before it
 pub text_run : (f : List ℕ → List ℕ) (a available kept found run : List ℕ) (start len : ℕ) (old mid new : Option (List ℕ)) → a ≡ [] → kept ≡ take start available → found ≡ drop start available
     → run ≡ take len found → len ≡ prefix_len is_run_byte found → len < length found
     → (start < length available) × (starts_run (drop start available) ≡ true) × ((k : ℕ) → k < start → starts_run (drop k available) ≡ false)
@@ -423,13 +423,13 @@ text_run f a available kept found run start len old mid new nil prefix back is c
             let len : n ≡ suc (suc (prefix_len is_run_byte t)) = count ∙ ap (prefix_len is_run_byte) e ∙ omega arith in
             ap (λ l. starts_run (take n l)) e ∙ ap (λ m. starts_run (take m (codes "_R" ++ t))) len
 
--- a run that reaches the end of the shown bytes
+-- a run that reaches the end of the available bytes
 pub found_open : (a found next rest : List ℕ) (len : ℕ) → a ≡ [] → next ≡ a ++ found → found ≡ rest → starts_run rest ≡ true → len ≡ prefix_len is_run_byte found → len ≡ length found → IsPartialRun next
 found_open a found next rest len nil pending back some count full =
     let same : next ≡ found = pending ∙ ap (λ l. l ++ found) nil in
     inr (inr (inr (ap starts_run (same ∙ back) ∙ some, ap (list_all is_run_byte) same ∙ all_of_prefix found (sym count ∙ full))))
 
--- one step, by what the reader showed and what was taken of it
+-- one step, by the available bytes and the number of those that were used
 pub step_took : (f : List ℕ → List ℕ) (a next available : List ℕ) (n : ℕ) (left rest old new : Option (List ℕ)) → n ≤ length available → length next < length a + 2 * n → IfSome left (λ xs. StartsWith xs available)
     → Consumes left rest (take n available) → ((more : List ℕ) → FilteredPrefix (filtered_by f zero) (a ++ (available ++ more)) (next ++ (drop n available ++ more)) old new)
     → StepFiltered (filtered_by f zero) a next left rest old new
@@ -453,7 +453,7 @@ all_ascii (c ∷ s) all (suc i) = all_ascii s (and_right (is_run_byte c) (list_a
 pub run_utf8 : (run : List ℕ) → list_all is_run_byte run ≡ true → IsUtf8 run
 run_utf8 run all = IsUtf8-from_ascii run (all_ascii run all)
 
--- what was passed of the text that the reader held, and what is carried and left of it
+-- the prefix of the input that was filtered, the pending text, and the rest of the input
 abbrev pub Passing : (List ℕ → List ℕ) → Option (List ℕ) → List ℕ → Option (List ℕ) → Option (List ℕ) → Option (List ℕ) → Type 0
 Passing f held pending left old new = IfSome held (λ text. (rest : List ℕ) × (left ≡ Some rest) × FilteredPrefix (filtered_by f zero) text (pending ++ rest) old new)
 
@@ -491,7 +491,7 @@ passing_err NotUtf8 f (Some text) pending next left rest old mid new p refused =
 passing_err (Write e) f (Some text) pending next left rest old mid new p refused = tt
 passing_err Memory f (Some text) pending next left rest old mid new p refused = stopped f text pending left old mid new p refused.2
 
--- where there are too many steps, at the writer that a join of branches has
+-- if there are too many steps, for the writer after the branches join
 pub passing_full : {W : Type 0} (contents : W → Option (List ℕ)) (e : Error) (f : List ℕ → List ℕ) (held : Option (List ℕ)) (pending : List ℕ) (left : Option (List ℕ)) (old new next : W)
     → Passing f held pending left (contents old) (contents new) → (error_kind e ≡ OutOfMemory → ⊥) → next ≡ new
     → IfSome held (λ text. BytesStopped (filtered_by f zero) (Read e) text (contents old) (contents next))

@@ -1,4 +1,4 @@
--- What is computed of a line is the one text that its division into runs gives.
+-- The computed output of a line is the only text that its division into runs gives.
 use Rattle.std.proofs.Common.{◌≡◌, ◌≢◌, ℕ, zero, suc, ◌+◌, ◌⊎◌, inl, inr, ◌&&◌, Bool, true, false, cond, List, [], ◌∷◌, ◌++◌, length, take, drop, get_or, refl, sym, ap, subst, ◌∙◌, arith, codes, Option, None, Some}
 use Rattle.std.specs.Option.{option_map_or}
 use Rattle.std.proofs.Math.Seq.{take-append_seam, drop-append_seam}
@@ -17,7 +17,7 @@ cases : (b : Bool) → (b ≡ true) ⊎ (b ≡ false)
 cases true = inl refl
 cases false = inr refl
 
--- a text that begins a run still does so with more behind it
+-- a text that starts a run does so if more follows it
 begins_append : (s rest : List ℕ) → starts_run s ≡ true → starts_run (s ++ rest) ≡ true
 begins_append s rest some = let w = begins_with s some in elim (w.1) [
   | inl e ↦ ap (λ l. starts_run (l ++ rest)) e
@@ -34,7 +34,7 @@ none_in_none : HasNoStart []
 none_in_none [] rest e = ap starts_run (sym e)
 none_in_none (b ∷ before) rest e = cc
 
--- nothing follows, or a run
+-- the text is empty, or starts a run
 abbrev Starts : List ℕ → Type 0
 Starts rest = (rest ≡ []) ⊎ (starts_run rest ≡ true)
 
@@ -42,7 +42,7 @@ not_inside : (b : ℕ) (t rest : List ℕ) → b ≢ 95 → rest ≡ b ∷ t →
 not_inside b t rest ne e (inl none) = cc
 not_inside b t rest ne e (inr some) = ne (ap (λ l. get_or l 0 0) (sym e) ∙ first_of_run rest some)
 
--- no run begins over the seam
+-- no run starts across the join of the two parts
 over_seam : (c : ℕ) (p rest t : List ℕ) → Starts rest → (c ∷ p) ++ rest ≡ codes "_ZN" ++ t ⊎ (c ∷ p) ++ rest ≡ codes "_R" ++ t → starts_run (c ∷ p) ≡ true
 over_seam c [] rest t starts (inl e) = absurd (not_inside 90 (78 ∷ t) rest (λ same. omega (arith, same)) (ap (drop 1) e) starts)
 over_seam c [] rest t starts (inr e) = absurd (not_inside 82 t rest (λ same. omega (arith, same)) (ap (drop 1) e) starts)
@@ -63,14 +63,14 @@ no_start_append c p rest none starts = elim (cases (starts_run ((c ∷ p) ++ res
 tail_no_start : (c : ℕ) (p : List ℕ) → HasNoStart (c ∷ p) → HasNoStart p
 tail_no_start c p none = λ before rest e. none (c ∷ before) rest (ap (λ l. c ∷ l) e)
 
--- the kept text in front
+-- the plain text at the start
 filtered-kept : (h : Bool) (p rest : List ℕ) → HasNoStart p → Starts rest → filtered h (p ++ rest) ≡ p ++ filtered h rest
 filtered-kept h [] rest none starts = refl
 filtered-kept h (c ∷ p) rest none starts =
     filtered_other (replacement h) c (p ++ rest) (no_start_append c p rest (none [] (c ∷ p) refl) starts)
     ∙ ap (λ l. c ∷ l) (filtered-kept h p rest (tail_no_start c p none) starts)
 
--- the run in front
+-- the run at the start
 run_len : (run following : List ℕ) → list_all is_run_byte run ≡ true → StartsOutsideRun following → prefix_len is_run_byte (run ++ following) ≡ length run
 run_len [] [] all stop = refl
 run_len [] (c ∷ following) all stop = ap (λ b. cond b (1 + prefix_len is_run_byte following) 0) stop
@@ -111,7 +111,7 @@ filtered_only h line out is =
     is.available ∙ ap (λ l. is.kept ++ l) (runs_only h is.parts is.rest is.rest_out is.runs)
     ∙ sym (filtered-kept h is.kept is.rest is.no_start (starts_of h is.parts is.rest is.rest_out is.runs)) ∙ sym (ap (filtered h) is.whole)
 
--- the longest run in front
+-- the longest run at the start
 pub run_all : (s : List ℕ) → list_all is_run_byte (take_while is_run_byte s) ≡ true
 run_all [] = refl
 run_all (c ∷ s) = elim (cases (is_run_byte c)) [
@@ -159,7 +159,7 @@ replaced h run = at (pieces_of h (stripped run)) refl
 nothing : (h : Bool) → IsFiltered h [] []
 nothing h = record { kept = []; rest = []; rest_out = []; parts = []; whole = refl; available = refl; no_start = none_in_none; runs = (refl, refl) }
 
--- a character in front, where no run begins
+-- a character at the start, if no run starts there
 keep : (h : Bool) (c : ℕ) (s out : List ℕ) → starts_run (c ∷ s) ≡ false → IsFiltered h s out → IsFiltered h (c ∷ s) (c ∷ out)
 keep h c s out none is = record {
   kept = c ∷ is.kept;
@@ -176,7 +176,7 @@ keep h c s out none is = record {
     more [] rest e = ap starts_run (sym e) ∙ shorter (c ∷ is.kept) is.rest (ap (λ l. starts_run (c ∷ l)) (sym is.whole) ∙ none)
     more (b ∷ before) rest e = is.no_start before rest (ap (drop 1) e)
 
--- a run in front
+-- a run at the start
 replace : (h : Bool) (c : ℕ) (s out : List ℕ) → starts_run (c ∷ s) ≡ true → IsFiltered h (drop (prefix_len is_run_byte s) s) out
     → IsFiltered h (c ∷ s) (replacement h (c ∷ take_while is_run_byte s) ++ out)
 replace h c s out some is = record {
@@ -219,10 +219,10 @@ from h zero (c ∷ s) = elim (cases (starts_run (c ∷ s))) [
   | inr none ↦ subst (IsFiltered h (c ∷ s)) (sym (ap (turn (replacement h) c s) none)) (keep h c s (filtered_by (replacement h) zero s) none (from h zero s))
 ]
 
--- what is computed is what the division gives, and nothing else is
+-- the computed text is that of the division, and no other text is
 pub filtered_is : (h : Bool) (line out : List ℕ) → ((out ≡ filtered h line) → IsFiltered h line out) × (IsFiltered h line out → out ≡ filtered h line)
 filtered_is h line out = (λ e. subst (IsFiltered h line) (sym e) (from h zero line), filtered_only h line out)
 
--- a text without a run passes
+-- a text without a run is unchanged
 pub passes : (h : Bool) (line : List ℕ) → HasNoStart line → filtered h line ≡ line
 passes h line none = filtered_all (replacement h) line (λ k lt. none (take k line) (drop k line) (sym (take-append-drop k line)))

@@ -1,4 +1,4 @@
--- The elements of a group that a text holds from a place on.
+-- The bytes of a group, from a place of a text on.
 use Rattle.std.proofs.Common.{◌≡◌, ℕ, List, ◌+◌, ◌-◌, ◌<◌, length, drop, take, get_or, ap, ◌∙◌, arith, take_all}
 use Rattle.std.proofs.lemmas.List.{length-drop, get_or-take, get_or-drop}
 

@@ -1,4 +1,4 @@
--- Items that say no line feed hand over none.
+-- Items without a line feed in their texts print none.
 use Rattle.std.proofs.Common.{◌≡◌, ◌≢◌, ◌==◌, ◌&&◌, ℕ, zero, suc, ◌+◌, ◌-◌, Bool, true, false, cond, List, [], ◌∷◌, length, Option, None, Some, refl, arith, codes}
 use Rattle.std.specs.Prelude.{nat_lt, nat_le, decimal, slice_get}
 use Rattle.std.specs.List.{concat}
@@ -12,7 +12,7 @@ use Rattle.demangle_v0_grammar.specs.Reading.{Tree, nothing, piece, plain_piece,
 use Rattle.rustc_demangle.proofs.LineFeeds.{line_feeds-append, line_feeds-concat, line_feeds-other}
 use Rattle.rustc_demangle.proofs.PrimitiveLineFeeds.{AreClear, number_clear, namespace_clear, nibbles_clear, identifier_clear, name_clear}
 
--- no piece of a tree holds a line feed
+-- no piece of a tree has a line feed
 abbrev pub IsClear : Tree → Type 0
 IsClear nothing = Unit {0}
 IsClear (piece t rest) = (line_feeds t ≡ 0) × IsClear rest
@@ -36,7 +36,7 @@ clear_pieces plain invalid_syntax h = refl
 clear_pieces plain too_deep h = refl
 clear_pieces plain after_error h = refl
 
--- no text that the items say holds a line feed, where the words that they read hold none
+-- no text of the items has a line feed, if the primitives that they read have none
 abbrev pub SaysClear : Items → Type 0
 SaysClear done = Unit {0}
 SaysClear invalid = Unit {0}
@@ -105,7 +105,7 @@ opened_clear : (o : Bool) (t : Tree) → IsClear t → IsClear (binding_separato
 opened_clear true t h = (refl, h)
 opened_clear false t h = (refl, h)
 
--- Words.
+-- Primitives.
 
 primitive_clear : {A : Type 0} (s : Context) (reads : List ℕ → ℕ → Read A) (rest : A → Place → Outcome)
     → ((i : ℕ) (v : A) (j : ℕ) → reads s.symbol i ≡ Some (v, j) → IsClear (rest v (Some j)).tree) → (i : Place) → IsClear (primitive s i reads rest).tree
@@ -125,7 +125,7 @@ fork_clear b f g h k None = k None
 fork_clear true f g h k (Some i) = h (Some (i + 1))
 fork_clear false f g h k (Some i) = k (Some i)
 
--- Units.
+-- Productions.
 
 abbrev pub LevelClear : Level → Type 0
 LevelClear l = (printed : Bool) (kind : Kind) (value : Bool) (m i : ℕ) → IsClear (l printed kind value m i).tree
@@ -134,7 +134,7 @@ abbrev pub LevelsClear : List Level → Type 0
 LevelsClear [] = Unit {0}
 LevelsClear (l ∷ ls) = LevelClear l × LevelsClear ls
 
--- no line feed stands in the symbol, and none in what its other units hand over
+-- the symbol has no line feed, and its other productions print none
 pub record Holds (s : Context) : Type 0 where
   pub symbol : line_feeds s.symbol ≡ 0
   pub here : LevelClear s.here

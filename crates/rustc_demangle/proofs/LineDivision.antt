@@ -6,7 +6,7 @@ use Rattle.std.specs.List.{concat}
 use Rattle.std.specs.Io.BufRead.{take_through, drop_through}
 use Rattle.rustc_demangle.specs.Lines.{lines, onto_first}
 
--- the first line is what a read through a line feed takes
+-- the first line is the result of reading up to a line feed
 pub lines_step : (xs : List ℕ) → 0 < length xs → lines xs ≡ take_through 10 xs ∷ lines (drop_through 10 xs)
 unfolding lines
 lines_step [] h = absurd (omega arith)
@@ -40,6 +40,6 @@ utf8_concat : (ls : List (List ℕ)) → All IsUtf8 ls → IsUtf8 (concat ls)
 utf8_concat [] h = IsUtf8-nil
 utf8_concat (l ∷ ls) h = IsUtf8-append l (concat ls) (All-head IsUtf8 l ls h) (utf8_concat ls (All-tail IsUtf8 l ls h))
 
--- a text is UTF-8 where each line is
+-- a text is UTF-8 if each line is
 pub utf8_by_lines : (xs : List ℕ) → All IsUtf8 (lines xs) → IsUtf8 xs
 utf8_by_lines xs h = subst IsUtf8 (lines_join xs) (utf8_concat (lines xs) h)

@@ -1,4 +1,4 @@
--- The line feeds of what is printed and written.
+-- The line feeds of texts that are printed and written.
 use Rattle.std.proofs.Common.{◌≡◌, ℕ, zero, suc, ◌+◌, ◌-◌, ◌≤◌, ◌⊎◌, inl, inr, not, ◌&&◌, Bool, true, false, eqb, cond, List, [], ◌∷◌, ◌++◌, length, take, drop, Option, None, Some, refl, sym, ap, ◌∙◌, arith, codes, nat_eq, bytes_eq, append-nil, option_map, option_and_then}
 use Rattle.std.specs.List.{concat, prefix_len, take_while, list_all, starts_with, position}
 use Rattle.std.specs.Option.{option_map_or}
@@ -30,7 +30,7 @@ cases : (b : Bool) → (b ≡ true) ⊎ (b ≡ false)
 cases true = inl refl
 cases false = inr refl
 
--- what fits of pieces, and what is cut of them
+-- the pieces that fit, and those that are cut
 line_feeds-fitting : (pieces : List (List ℕ)) (limit : ℕ) → line_feeds (concat (prefix_within pieces limit)) ≤ line_feeds (concat pieces)
 line_feeds-fitting [] limit = omega arith
 line_feeds-fitting (piece ∷ pieces) limit = elim (leb_tells (length piece) limit) [
@@ -44,11 +44,11 @@ line_feeds-cut pieces limit = elim (leb_tells (size pieces) limit) [
   | inr e ↦ rw (e.0) (omega (arith, line_feeds-fitting pieces limit, line_feeds-concat (prefix_within pieces limit) (marker ∷ [])))
 ]
 
--- and so is one that is no control
+-- a character that is not a control character is not a line feed
 line_feeds-encode : (c : ℕ) → is_control c ≡ false → line_feeds (encode_utf8 c) ≡ 0
 line_feeds-encode c no_control = line_feeds-character c (λ same. true≢false (ap is_control (sym same) ∙ no_control))
 
--- the text in it, or none
+-- the text in an option, or the empty text
 in_text : Option (List ℕ) → List ℕ
 in_text None = []
 in_text (Some text) = text
@@ -98,7 +98,7 @@ line_feeds-escape name text e =
     digits true e = line_feeds-digits (drop 1 name) text e
     digits false e = absurd (none≢some e)
 
--- what a unit prints, and how much of the text it takes
+-- the text that a unit prints, and the number of bytes that it reads
 unit_text : Option (List ℕ × ℕ) → List ℕ
 unit_text None = []
 unit_text (Some u) = u.0
@@ -107,7 +107,7 @@ unit_len : Option (List ℕ × ℕ) → ℕ
 unit_len None = 0
 unit_len (Some u) = u.1
 
--- a unit prints no more line feeds than it takes
+-- a unit prints no more line feeds than it reads
 line_feeds-unit : (c : ℕ) (s : List ℕ) (u : List ℕ × ℕ) → leading_unit c s ≡ Some u → line_feeds u.0 ≤ line_feeds (c ∷ take u.1 s)
 unfolding leading_unit unit_text unit_len
 line_feeds-unit c s u e = first (eqb c 46) (starts_with nat_eq s (codes ".")) e
@@ -191,7 +191,7 @@ line_feeds-elements [] text suffix is = omega (arith, ap line_feeds is)
 line_feeds-elements (element ∷ elements) text suffix is =
     omega (arith, line_feeds-elements elements is.1 suffix is.5, ap line_feeds is.2, line_feeds-append is.0 (element ++ is.1), line_feeds-append element is.1, line_feeds-cons element elements)
 
--- what a legacy symbol prints
+-- the pieces of a legacy symbol
 line_feeds-legacy : (hash : Bool) (text : List ℕ) (elements : List (List ℕ)) (suffix : List ℕ) → IsLegacy text elements suffix
     → line_feeds (concat (legacy_pieces hash elements)) + line_feeds suffix ≤ line_feeds text
 line_feeds-legacy hash text elements suffix is =
@@ -239,7 +239,7 @@ line_feeds-stripped (c ∷ s) = at (line_feeds-stripped s) (starts_with nat_eq (
     at following true false = omega arith
     at following false d = omega (arith, following)
 
--- what stands for a run without line feeds has none
+-- the replacement of a run without line feeds has none
 line_feeds-replacement : (h : Bool) (run : List ℕ) → line_feeds run ≡ 0 → line_feeds (replacement h run) ≡ 0
 line_feeds-replacement h run none = at (pieces_of h (stripped run))
   where
@@ -247,7 +247,7 @@ line_feeds-replacement h run none = at (pieces_of h (stripped run))
     at None = none
     at (Some read) = line_feeds-handed (stripped run) h most_bytes (omega (arith, none, line_feeds-stripped run))
 
--- run characters are no line feeds
+-- run bytes are not line feeds
 line_feeds-run : (run : List ℕ) → list_all is_run_byte run ≡ true → line_feeds run ≡ 0
 line_feeds-run [] all = refl
 line_feeds-run (c ∷ run) all = at (line_feeds-run run) (is_run_byte c) refl all
@@ -256,7 +256,7 @@ line_feeds-run (c ∷ run) all = at (line_feeds-run run) (is_run_byte c) refl al
     at following true is rest = line_feeds-other c run (λ same. true≢false (sym is ∙ ap is_run_byte same)) ∙ following rest
     at following false is rest = absurd (true≢false (sym rest))
 
--- a line keeps its line feeds
+-- a filtered line has as many line feeds as before
 line_feeds-filtered : (h : Bool) (skip : ℕ) (s : List ℕ) → line_feeds (filtered_by (replacement h) skip s) ≡ line_feeds (drop skip s)
 unfolding by_runs
 line_feeds-filtered h zero [] = refl
@@ -272,7 +272,7 @@ line_feeds-filtered h zero (c ∷ s) = elim (cases (starts_run (c ∷ s))) [
   | inr none ↦ ap (λ b. line_feeds (turn (replacement h) c s b)) none ∙ omega (arith, line_feeds-filtered h zero s)
 ]
 
--- and so do all lines
+-- so do all lines
 pub line_feeds-written : (h : Bool) (text : List ℕ) → line_feeds (output_of h (lines text)) ≡ line_feeds text
 line_feeds-written h text = each (lines text) ∙ ap line_feeds (lines_join text)
   where

@@ -25,7 +25,7 @@ line_feeds-drop n xs = omega (arith, ap line_feeds (take-append-drop n xs), line
 pub line_feeds-other : (b : ℕ) (xs : List ℕ) → b ≢ 10 → line_feeds (b ∷ xs) ≡ line_feeds xs
 line_feeds-other b xs ne = ap (λ t. cond t 1 0 + line_feeds xs) (ne_eqb b 10 ne) ∙ omega arith
 
--- a character that is no line feed is written without one
+-- a character that is not a line feed is written without one
 pub line_feeds-character : (c : ℕ) → c ≢ 10 → line_feeds (encode_utf8 c) ≡ 0
 unfolding encode_utf8
 line_feeds-character c ne = go (ltb c 128) (ltb c 2048) (ltb c 65536)

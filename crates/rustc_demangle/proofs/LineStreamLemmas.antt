@@ -20,7 +20,7 @@ use Rattle.rustc_demangle.specs.declared.stream.fault.StreamFault.{StreamFault}
 use Rattle.rustc_demangle.specs.declared.stream.fault.StreamFault.TheVariants.{Read, NotUtf8, Write, Memory}
 use Rattle.rustc_demangle.proofs.LineDivision.{lines_step, utf8_by_lines}
 
--- the lines that were written, and what the reader has left
+-- the lines that were written, and the rest of the input
 abbrev pub Streaming : Bool → Option (List ℕ) → Option (List ℕ) → Option (List ℕ) → Option (List ℕ) → Type 0
 Streaming h held left old new = IfSome held (λ text. (done : List (List ℕ)) × (rest : List ℕ) × (left ≡ Some rest)
     × (lines text ≡ done ++ lines rest) × All IsUtf8 done × Appends old new (output_of h done))
@@ -72,7 +72,7 @@ pub streaming_end : (h b : Bool) (held left next old mid new : Option (List ℕ)
 streaming_end h b held left next old mid new p copied is =
     end h held left next old mid new p (subst (λ t. LineCopied (Ok t) h left next mid new) is copied)
 
--- what was written, where nothing more was
+-- the lines that were written, if nothing more was
 written : (h : Bool) (text : List ℕ) (left old mid new : Option (List ℕ)) → Streaming h (Some text) left old mid → new ≡ mid
     → (k : ℕ) × WroteLines text h old new k
 written h text left old mid new p same =
@@ -105,7 +105,7 @@ stop_text h (Some text) left next old mid new p refused =
     ap (λ l. get_or l (length p.0) []) (p.3 ∙ ap (λ l. p.0 ++ l) (lines_step p.1 bad.0)) ∙ get_or-append_seam p.0 (take_through 10 p.1) (lines (drop_through 10 p.1)) [] in
     (stop.0, stop.1, λ good. bad.1 (subst IsUtf8 at good))
 
--- where the stream stops
+-- if the stream stops
 pub streaming_err : (fault : StreamFault) (h : Bool) (held left next old mid new : Option (List ℕ)) → Streaming h held left old mid
     → LineCopied (Err fault) h left next mid new → IfSome held (λ text. StreamStopped fault text h old new)
 streaming_err (Read e) h held left next old mid new p stop = stop_read e h held left old mid new p stop.0 stop.1
@@ -114,14 +114,14 @@ streaming_err (Write e) h None left next old mid new p stop = tt
 streaming_err (Write e) h (Some text) left next old mid new p stop = tt
 streaming_err Memory h held left next old mid new p stop = stop_memory h held left old mid new p stop
 
--- where there are too many lines, at the writer that a join of branches has
+-- if there are too many lines, for the writer after the branches join
 pub streaming_full : {W : Type 0} (contents : W → Option (List ℕ)) (e : Error) (h : Bool) (held left : Option (List ℕ)) (old new next : W)
     → Streaming h held left (contents old) (contents new) → (error_kind e ≡ OutOfMemory → ⊥) → next ≡ new
     → IfSome held (λ text. StreamStopped (Read e) text h (contents old) (contents next))
 streaming_full contents e h held left old new next p kind same =
     stop_read e h held left (contents old) (contents new) (contents next) p kind (ap contents same)
 
--- a read into an empty buffer took the line
+-- a read into an empty buffer read the line
 taken : (rest before after bytes : List ℕ) → after ≡ before ++ take_through 10 rest → before ≡ [] → bytes ≡ after → bytes ≡ take_through 10 rest
 taken rest before after bytes read none same = same ∙ read ∙ ap (λ l. l ++ take_through 10 rest) none
 
@@ -150,12 +150,12 @@ line_unread NotUtf8 h left next old is = absurd is
 line_unread (Write e) h left next old is = absurd is
 line_unread Memory h left next old is = refl
 
--- what `is_empty` tells of a vector's items
+-- the items of a vector, by `is_empty`
 pub some_items : (n : ℕ) (xs : List ℕ) → false ≡ (eqb n 0) → n ≡ length xs → 0 < length xs
 some_items zero xs h e = absurd (grind (arith, h))
 some_items (suc n) xs h e = omega (arith, e)
 
--- a read that took nothing found nothing
+-- a read that returned no byte was at the end
 none_taken : (rest : List ℕ) → take_through 10 rest ≡ [] → rest ≡ []
 none_taken [] e = refl
 none_taken (b ∷ bs) e = at (eqb b 10) e

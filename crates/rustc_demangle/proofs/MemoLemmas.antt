@@ -1,4 +1,4 @@
--- What a memo writes for a run.
+-- The text that a memo writes for a run.
 use Rattle.std.proofs.Common.{◌≡◌, ℕ, List, ap, sym, subst, ◌∙◌}
 use Rattle.std.specs.List.{concat}
 use Rattle.rustc_demangle.specs.Filtered.{replacement_in, filtered_in}
@@ -9,12 +9,12 @@ use Rattle.rustc_demangle.specs.Symbols.{handed_in, IsSymbol}
 use Rattle.rustc_demangle.specs.declared.format.Format.{Format}
 use Rattle.rustc_demangle.proofs.RunLemmas.{replacement_in-symbol, replacement_in-no_symbol}
 
--- what a symbol prints replaces its run
+-- the printed symbol replaces its run
 pub symbol_replaced : (run symbol : List ℕ) (format : Format) → symbol ≡ stripped run → IsSymbol symbol → concat (handed_in symbol format) ≡ replacement_in format run
 symbol_replaced run symbol format same is =
     ap (λ s. concat (handed_in s format)) same ∙ sym (replacement_in-symbol format run (subst IsSymbol same is))
 
--- a run that is no symbol is kept
+-- a run that is not a symbol is unchanged
 pub run_kept : (run symbol : List ℕ) (format : Format) → symbol ≡ stripped run → (IsSymbol symbol → ⊥) → run ≡ replacement_in format run
 run_kept run symbol format same other = sym (replacement_in-no_symbol format run (λ is. other (subst IsSymbol (sym same) is)))
 

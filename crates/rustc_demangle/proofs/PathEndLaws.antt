@@ -1,4 +1,4 @@
--- Where the path of a symbol ends.
+-- The end of a symbol's path.
 use Rattle.std.proofs.Common.{◌≡◌, ℕ, ◌+◌, ◌-◌, ◌<◌, ◌≤◌, Bool, true, false, List, [], ◌∷◌, ◌++◌, length, take, drop, Option, None, Some, refl, sym, ap, ◌∙◌, arith, cond, inl, inr}
 use Rattle.std.specs.Prelude.{IsAscii, nat_lt}
 use Rattle.std.specs.List.{list_all}
@@ -31,7 +31,7 @@ path_len-styled text style suffix has = path_len-some text (style_pieces (form t
 pub path_len-unstyled : (text : List ℕ) → HasNoStyle text → path_len_of text ≡ 0
 path_len-unstyled text none = ap (λ o. option_map_or (λ (r : List (List ℕ) × List ℕ). length text - length r.1) o 0) (none (form true false))
 
--- no prefix is empty
+-- a prefix is not empty
 legacy_prefix-len : (p : List ℕ) → IsLegacyPrefix p → 0 < length p
 legacy_prefix-len p (inl e) = let len : length p ≡ 3 = ap length e in omega arith
 legacy_prefix-len p (inr (inl e)) = let len : length p ≡ 2 = ap length e in omega arith
@@ -42,7 +42,7 @@ v0_prefix-len p (inl e) = let len : length p ≡ 2 = ap length e in omega arith
 v0_prefix-len p (inr (inl e)) = let len : length p ≡ 1 = ap length e in omega arith
 v0_prefix-len p (inr (inr e)) = let len : length p ≡ 3 = ap length e in omega arith
 
--- a symbol has a path in front of its suffix
+-- a symbol has a path before its suffix
 pub path_len_positive : (text : List ℕ) → IsSymbol text → 0 < path_len_of text
 path_len_positive text (inl (elements, suffix, legacy, allowed)) =
     let len = path_len-some text (legacy_pieces true elements) suffix (pieces-legacy (form true false) text elements suffix (legacy_spelled text elements suffix legacy) allowed) in
@@ -55,7 +55,7 @@ path_len_positive text (inr (inner, suffix, v0, allowed)) =
     let part = v0.5 in
     omega (arith, len, prefix, ap length v0.1, length-append v0.0 inner, ap length part.2, length-drop part.0 inner)
 
--- a v0 symbol is ASCII with a prefix, and a text with a prefix of the legacy scheme has none of v0
+-- a v0 symbol is ASCII with a prefix, and a text with a prefix of the legacy scheme has no prefix of v0
 pub v0_ascii-ascii : (text : List ℕ) → IsAscii text → v0_ascii text ≡ v0_inner text
 v0_ascii-ascii text ascii = ap (λ b. cond b (v0_inner text) None) (ascii_all text ascii)
 
@@ -79,7 +79,7 @@ pub handed_with_path_len-some : (text : List ℕ) (len : ℕ) (hash : Bool) (lim
     → handed_with_path_len text len hash limit ≡ cut (path_texts inner (form hash false)) limit ++ drop len text ∷ []
 handed_with_path_len-some text len hash limit inner e = ap (λ o. option_map_or (λ inner. cut (path_texts inner (form hash false)) limit ++ drop len text ∷ []) o (handed text hash limit)) e
 
--- past a text's end nothing is left of it
+-- no byte is left after the end of a text
 pub drop-min : (n : ℕ) (xs : List ℕ) → drop (min n (length xs)) xs ≡ drop n xs
 drop-min n xs = elim (leb_tells n (length xs)) [
   | inl h ↦ ap (λ k. drop k xs) (let within : n ≤ length xs = h.1 in omega (arith, within))
@@ -89,20 +89,20 @@ drop-min n xs = elim (leb_tells n (length xs)) [
       ap (λ k. drop k xs) all ∙ drop_all (length xs) xs (omega arith) ∙ sym (drop_all n xs (omega (arith, past)))
 ]
 
--- what stands behind a front
+-- the rest after a prefix
 behind_front : (text prefix suffix : List ℕ) → text ≡ prefix ++ suffix → drop (length text - length suffix) text ≡ suffix
 behind_front text prefix suffix e =
     let at : length prefix ≡ length text - length suffix = omega (arith, ap length e, length-append prefix suffix) in
     ap (λ t. drop (length text - length suffix) t) e ∙ drop_at prefix suffix (length text - length suffix) at
 
--- what is handed over of ASCII with a v0 prefix, by the suffix that the code takes
+-- the pieces of an ASCII text with a v0 prefix, by the suffix that the code passes
 pub handed_with_path_len-cut : (text : List ℕ) (len : ℕ) (hash : Bool) (limit : ℕ) (inner suffix : List ℕ) → IsAscii text → v0_inner text ≡ Some inner
     → suffix ≡ drop (min len (length text)) text → handed_with_path_len text len hash limit ≡ cut (path_texts inner (form hash false)) limit ++ suffix ∷ []
 handed_with_path_len-cut text len hash limit inner suffix ascii some is =
     handed_with_path_len-some text len hash limit inner (v0_ascii-ascii text ascii ∙ some)
     ∙ ap (λ s. cut (path_texts inner (form hash false)) limit ++ s ∷ []) (sym (is ∙ drop-min len text))
 
--- a symbol of which it is known where its path ends prints as it does
+-- a symbol prints the same if the end of its path is known
 pub handed_with_path_len-symbol : (text : List ℕ) (hash : Bool) (limit : ℕ) → IsSymbol text → handed_with_path_len text (path_len_of text) hash limit ≡ handed text hash limit
 handed_with_path_len-symbol text hash limit (inl (elements, suffix, legacy, allowed)) =
     handed_with_path_len-none text (path_len_of text) hash limit (v0_ascii-none text (λ _. legacy_not_v0 text legacy.1 legacy.0 legacy.2 legacy.3))
@@ -119,7 +119,7 @@ handed_with_path_len-symbol text hash limit (inr (inner, suffix, v0, allowed)) =
     ∙ ap (λ s. cut (path_texts inner (form hash false)) limit ++ s ∷ []) (ap (λ n. drop n text) len ∙ behind_front text (v0.0 ++ take part.0 inner) suffix whole)
     ∙ sym (handed-some_of text (unfolded hash limit) (path_texts inner (form hash false), suffix) (pieces-v0 (form hash false) text inner suffix read allowed))
 
--- what any text hands over is within the limit, the marker and its own bytes
+-- the pieces of any text are within the limit, the marker and its own bytes
 size_handed : (text : List ℕ) (hash : Bool) (limit : ℕ) → size (handed text hash limit) ≤ limit + 20 + length text
 size_handed text hash limit = go (pieces_of hash text) refl where
   go : (read : Option (List (List ℕ) × List ℕ)) → pieces_of hash text ≡ read → size (handed text hash limit) ≤ limit + 20 + length text

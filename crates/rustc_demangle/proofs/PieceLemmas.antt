@@ -1,4 +1,4 @@
--- The pieces of a text, as they are handed to a sink one after the other.
+-- The pieces of a text, in the order in which they are put into a sink.
 use Rattle.std.proofs.Common.{◌≡◌, ℕ, zero, suc, ◌+◌, ◌<◌, ◌≤◌, Bool, true, false, cond, List, [], ◌∷◌, ◌++◌, length, take, drop, Option, None, Some, Result, Ok, Err, IsOk, IsErr, refl, sym, ap, subst, ◌∙◌, arith, append_assoc, append-nil}
 use Rattle.std.specs.List.{concat, prefix_len, take_while}
 use Rattle.std.specs.Option.{option_map_or}
@@ -17,7 +17,7 @@ use Rattle.rustc_demangle.specs.TextPieces.{run_pieces, filtered_pieces_from, fi
 use Rattle.rustc_demangle.proofs.SymbolLemmas.{pieces-symbol, symbol-pieces}
 use Rattle.rustc_demangle.proofs.RunLemmas.{turn, first_of_run, run_some}
 
--- what is skipped is left out
+-- skipped bytes are omitted
 pieces_skip : (format : Format) (n : ℕ) (s : List ℕ) → filtered_pieces_from format n s ≡ filtered_pieces_in format (drop n s)
 unfolding by_runs
 pieces_skip format zero [] = refl
@@ -25,19 +25,19 @@ pieces_skip format (suc n) [] = refl
 pieces_skip format zero (c ∷ s) = refl
 pieces_skip format (suc n) (c ∷ s) = pieces_skip format n s
 
--- one turn, by whether a run begins
+-- one iteration, by whether a run starts
 abbrev pieces_turn : Format → ℕ → List ℕ → Bool → List (List ℕ)
 pieces_turn format c s b = elim b [
   | true ↦ [] ∷ (run_pieces format (c ∷ take_while is_run_byte s) ++ filtered_pieces_from format (prefix_len is_run_byte s) s)
   | false ↦ onto_first c (filtered_pieces_from format zero s)
 ]
 
--- where no run begins, the character is kept
+-- if no run starts, the character is unchanged
 pieces_other : (format : Format) (c : ℕ) (s : List ℕ) → starts_run (c ∷ s) ≡ false → filtered_pieces_in format (c ∷ s) ≡ onto_first c (filtered_pieces_in format s)
 unfolding by_runs
 pieces_other format c s none = ap (pieces_turn format c s) none
 
--- where one begins, nothing is kept in front of it
+-- if a run starts, the text before it is empty
 pieces_run : (format : Format) (s : List ℕ) → starts_run s ≡ true
     → filtered_pieces_in format s ≡ [] ∷ (run_pieces format (take (prefix_len is_run_byte s) s) ++ filtered_pieces_in format (drop (prefix_len is_run_byte s) s))
 unfolding by_runs
@@ -49,7 +49,7 @@ pieces_run format (c ∷ s) some =
     ∙ ap (λ ps. [] ∷ (run_pieces format (c ∷ take_while is_run_byte s) ++ ps)) (pieces_skip format (prefix_len is_run_byte s) s)
     ∙ ap (λ n. [] ∷ (run_pieces format (take n (c ∷ s)) ++ filtered_pieces_in format (drop n (c ∷ s)))) (sym count)
 
--- where the next run begins at a place, what stands in front of it is the first piece
+-- if the next run starts at a place, the text before that place is the first piece
 pieces_kept : (format : Format) (n : ℕ) (s : List ℕ) → n ≤ length s → ((k : ℕ) → k < n → starts_run (drop k s) ≡ false) → starts_run (drop n s) ≡ true
     → filtered_pieces_in format s ≡ take n s ∷ (run_pieces format (take (prefix_len is_run_byte (drop n s)) (drop n s)) ++ filtered_pieces_in format (drop (prefix_len is_run_byte (drop n s)) (drop n s)))
 pieces_kept format zero s le none some = pieces_run format s some
@@ -58,19 +58,19 @@ pieces_kept format (suc n) (c ∷ s) le none some =
     pieces_other format c s (none 0 (omega arith))
     ∙ ap (onto_first c) (pieces_kept format n s (omega (arith, le)) (λ k lt. none (suc k) (omega (arith, lt))) some)
 
--- a text in which no run begins is one piece
+-- a text in which no run starts is one piece
 pieces_all : (format : Format) (s : List ℕ) → ((k : ℕ) → k < length s → starts_run (drop k s) ≡ false) → filtered_pieces_in format s ≡ s ∷ []
 unfolding by_runs
 pieces_all format [] none = refl
 pieces_all format (c ∷ s) none =
     pieces_other format c s (none 0 (omega arith)) ∙ ap (onto_first c) (pieces_all format s (λ k lt. none (suc k) (omega (arith, lt))))
 
--- a symbol's run is what is handed over of it
+-- the pieces of a run that is a symbol are those of the symbol
 pub run_pieces-symbol : (format : Format) (run : List ℕ) → IsSymbol (stripped run) → handed_in (stripped run) format ≡ run_pieces format run
 run_pieces-symbol format run symbol =
     sym (ap (λ read. option_map_or (λ (_ : List (List ℕ) × List ℕ). handed_in (stripped run) format) read (run ∷ [])) (pieces-symbol (form_of format) (stripped run) symbol).1)
 
--- and any other is itself
+-- any other run is its own piece
 pub run_pieces-no_symbol : (format : Format) (run : List ℕ) → (IsSymbol (stripped run) → ⊥) → run ∷ [] ≡ run_pieces format run
 run_pieces-no_symbol format run none = at (pieces_in (form_of format) (stripped run)) refl
   where
@@ -78,7 +78,7 @@ run_pieces-no_symbol format run none = at (pieces_in (form_of format) (stripped 
     at None e = refl
     at (Some read) e = absurd (none (symbol-pieces (form_of format) (stripped run) read e))
 
--- what stands for a run is its pieces, joined
+-- the replacement of a run is its pieces, joined
 pub concat-run : (format : Format) (run : List ℕ) → concat (run_pieces format run) ≡ replacement_in format run
 concat-run format run = at (pieces_in (form_of format) (stripped run))
   where
@@ -112,14 +112,14 @@ pieces_join_in format text = join_from format zero text
 pub pieces_join : (h : Bool) (l : ℕ) (text : List ℕ) → concat (filtered_pieces h l text) ≡ filtered_within h l text
 pieces_join h l text = pieces_join_in (unfolded h l) text
 
--- what was handed over of a text, up to what is left of it
+-- the pieces of a text that were put, and the rest of the text
 abbrev pub Feeding : {S : Type 0} → Ghosts S → Format → List ℕ → S → S → List ℕ → Type 0
 Feeding sink format text old new rest = (done : List (List ℕ)) × PutsPieces sink old done (Ok tt) new × (filtered_pieces_in format text ≡ done ++ filtered_pieces_in format rest)
 
 pub feeding_init : {S : Type 0} (sink : Ghosts S) (format : Format) (text : List ℕ) (old : S) → sink.failed old ≡ false → Feeding sink format text old old text
 feeding_init sink format text old not_failed = ([], puts_nothing sink old not_failed, refl)
 
--- a run that was found, and what is kept in front of it, by the values of the code
+-- a run that was found, and the text before it, by the values of the code
 abbrev pub Found : List ℕ → List ℕ → List ℕ → List ℕ → List ℕ → List ℕ → List ℕ → ℕ → ℕ → Type 0
 Found rest bytes kept found bytes' run following n m = (bytes ≡ rest)
     × ((n < length bytes) × (starts_run (drop n bytes) ≡ true) × ((k : ℕ) → k < n → starts_run (drop k bytes) ≡ false))
@@ -141,7 +141,7 @@ puts_ok : {S : Type 0} (sink : Ghosts S) (old new : S) (list : List (List ℕ)) 
 puts_ok sink old new list (Ok u) p ok = record { all = λ _. p.all refl; refused = λ e. absurd (false≢true e); fits = p.fits }
 puts_ok sink old new list (Err e) p ok = absurd (false≢true ok)
 
--- a kept text and what stands for the run behind it were handed over
+-- the plain text and the replacement of the run after it were put
 pub feeding_step : {S : Type 0} (sink : Ghosts S) (format : Format) (text rest bytes kept found bytes' run following : List ℕ) (n m : ℕ) (old new mid end : S) (r r' : Result (Unit {0}) SinkRefused)
     → Feeding sink format text old new rest → Found rest bytes kept found bytes' run following n m
     → PutsPieces sink new (kept ∷ []) r mid → IsOk r → PutsPieces sink mid (run_pieces format run) r' end → IsOk r' → Feeding sink format text old end following
@@ -157,7 +157,7 @@ whole : {S : Type 0} (sink : Ghosts S) (format : Format) (text rest : List ℕ) 
     → filtered_pieces_in format rest ≡ ps → p.0 ++ ps ≡ filtered_pieces_in format text
 whole sink format text rest old new p ps e = sym (p.2 ∙ ap (λ qs. p.0 ++ qs) e)
 
--- the kept text was refused
+-- the plain text was rejected
 pub feeding_kept : {S : Type 0} (sink : Ghosts S) (format : Format) (text rest bytes kept found bytes' run following : List ℕ) (n m : ℕ) (old new end : S) (r result : Result (Unit {0}) SinkRefused)
     → Feeding sink format text old new rest → Found rest bytes kept found bytes' run following n m
     → PutsPieces sink new (kept ∷ []) r end → IsErr r → IsErr result → PutsPieces sink old (filtered_pieces_in format text) result end
@@ -167,7 +167,7 @@ feeding_kept sink format text rest bytes kept found bytes' run following n m old
     (whole sink format text rest old new p (kept ∷ following') (pieces_found format rest bytes kept found bytes' run following n m f))
     (puts_then sink old new end p.0 (kept ∷ following') (Ok tt) result p.1 refl (puts_stop sink new end (kept ∷ []) following' r result first err err'))
 
--- what stands for the run was refused
+-- the replacement of the run was rejected
 pub feeding_run : {S : Type 0} (sink : Ghosts S) (format : Format) (text rest bytes kept found bytes' run following : List ℕ) (n m : ℕ) (old new mid end : S) (r r' result : Result (Unit {0}) SinkRefused)
     → Feeding sink format text old new rest → Found rest bytes kept found bytes' run following n m
     → PutsPieces sink new (kept ∷ []) r mid → IsOk r → PutsPieces sink mid (run_pieces format run) r' end → IsErr r' → IsErr result
@@ -179,7 +179,7 @@ feeding_run sink format text rest bytes kept found bytes' run following n m old 
     (puts_then sink old new end p.0 (kept ∷ following') (Ok tt) result p.1 refl
     (puts_then sink new mid end (kept ∷ []) following' r result first ok (puts_stop sink mid end (run_pieces format run) (filtered_pieces_in format following) r' result second err err')))
 
--- what is left, where no run begins in it
+-- the rest, if no run starts in it
 pub feeding_end : {S : Type 0} (sink : Ghosts S) (format : Format) (text rest bytes : List ℕ) (old new end : S) (result : Result (Unit {0}) SinkRefused)
     → Feeding sink format text old new rest → bytes ≡ rest → ((k : ℕ) → k < length bytes → starts_run (drop k bytes) ≡ false)
     → PutsPieces sink new (rest ∷ []) result end → PutsPieces sink old (filtered_pieces_in format text) result end

@@ -1,4 +1,4 @@
--- The words of a v0 symbol without line feeds, and what is handed over for them.
+-- The primitives of a v0 symbol without line feeds, and the texts that are printed for them.
 use Rattle.std.proofs.Common.{◌≡◌, ◌≢◌, ◌==◌, ℕ, zero, suc, ◌+◌, ◌-◌, ◌/◌, ◌%◌, ◌<◌, inl, inr, not, ◌&&◌, Bool, true, false, cond, List, [], ◌∷◌, ◌++◌, length, map, take, drop, Option, None, Some, refl, sym, ap, ◌∙◌, subst, arith, codes, ne_eqb}
 use Rattle.std.specs.Prelude.{◌||◌, nat_lt, nat_le, flat_map, option_and_then}
 use Rattle.std.specs.List.{insert, slice_get, slice_range}
@@ -26,7 +26,7 @@ clear_join : (xs ys : List (List ℕ)) → AreClear xs → AreClear ys → AreCl
 clear_join [] ys h k = k
 clear_join (x ∷ xs) ys h k = (h.0, clear_join xs ys h.1 k)
 
--- the first of a text without line feeds, and its rest
+-- the first byte of a text without line feeds, and the rest
 first_clear : (b : ℕ) (bs : List ℕ) → line_feeds (b ∷ bs) ≡ 0 → b ≢ 10
 first_clear b bs h same = let q : 1 + line_feeds bs ≡ 0 = subst (λ x. line_feeds (x ∷ bs) ≡ 0) same h in omega (arith, q)
 
@@ -62,7 +62,7 @@ pub number_clear : (base n : ℕ) → line_feeds (digits base false n) ≡ 0
 unfolding digits
 number_clear base n = onto_clear 64 base n [] refl
 
--- Words.
+-- Primitives.
 
 none≢some : {A : Type 0} {x : A} → None ≡ Some x → ⊥
 none≢some e = cc

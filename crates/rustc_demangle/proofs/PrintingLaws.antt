@@ -1,4 +1,4 @@
--- What texts print, with the hash or without it, and within a limit.
+-- The pieces of texts, with the hash or without it, and within a limit.
 use Rattle.std.proofs.Common.{◌≡◌, ◌⊎◌, ℕ, ◌+◌, ◌≤◌, Bool, true, false, List, [], ◌∷◌, ◌++◌, length, codes, Option, None, Some, refl, sym, ap, ◌∙◌, arith, cond, subst, inl, inr}
 use Rattle.std.specs.Option.{option_map_or}
 use Rattle.std.proofs.lemmas.List.{append-nil, append_assoc}
@@ -32,7 +32,7 @@ kept-no_symbol text none format = go (pieces_in (form_of format) text) refl wher
   go None e = refl
   go (Some read) e = absurd (none (symbol-pieces (form_of format) text read e))
 
--- what is cut has the bytes of the limit and of the marker at most
+-- cut pieces have at most the bytes of the limit and of the marker
 pub size-cut : (pieces : List (List ℕ)) (limit : ℕ) → size (cut pieces limit) ≤ limit + 20
 size-cut pieces limit = elim (leb_tells (size pieces) limit) [
   | inl e ↦ let within : size pieces ≤ limit = e.1 in omega (arith, ap size (cut-within pieces limit within))
@@ -44,14 +44,14 @@ pub size-handed : (text : List ℕ) (format : Format) (pieces : List (List ℕ))
 size-handed text format pieces suffix e =
     omega (arith, ap size (handed-some_of text format (pieces, suffix) e), size-append (cut pieces format.limit) (suffix ∷ []), size-cut pieces format.limit)
 
--- with the hash all elements are shown
+-- with the hash, all elements are printed
 available-all : (elements : List (List ℕ)) → printed_elements true elements ≡ elements
 unfolding printed_elements
 available-all [] = refl
 available-all (e ∷ []) = refl
 available-all (e ∷ f ∷ es) = ap (λ xs. e ∷ xs) (available-all (f ∷ es))
 
--- without it, all or all but a last one that is a hash
+-- without the hash, all elements, or all except a last one that is a hash
 available-cases : (elements : List (List ℕ)) → (printed_elements false elements ≡ elements)
     ⊎ ((prefix : List (List ℕ)) × (last : List ℕ) × (elements ≡ prefix ++ last ∷ []) × (printed_elements false elements ≡ prefix) × (is_hash last ≡ true))
 unfolding printed_elements
@@ -66,7 +66,7 @@ available-cases (e ∷ f ∷ es) = elim (available-cases (f ∷ es)) [
   | inr h ↦ inr (e ∷ h.0, h.1, ap (λ xs. e ∷ xs) h.2, ap (λ xs. e ∷ xs) h.3, h.4)
 ]
 
--- the pieces of a list with one element more
+-- the pieces of a list with one more element
 joined-last : (prefix : List (List ℕ)) (last : List ℕ) → joined_pieces (prefix ++ last ∷ []) ≡ joined_pieces prefix ++ pieces_after prefix last
 joined-last [] last = append-nil (unescaped last)
 joined-last (e ∷ es) last =

@@ -1,4 +1,4 @@
--- Runs in a line, as they are passed one after the other.
+-- The runs of a line, in the order in which they are replaced.
 use Rattle.std.proofs.Common.{◌≡◌, ℕ, zero, suc, ◌+◌, ◌-◌, ◌<◌, ◌≤◌, ◌⊎◌, inl, inr, ◌||◌, Bool, true, false, cond, List, [], ◌∷◌, ◌++◌, length, take, drop, get_or, Option, None, Some, refl, sym, ap, subst, ◌∙◌, arith, codes, nat_eq}
 use Rattle.std.specs.List.{starts_with, prefix_len, take_while, concat}
 use Rattle.std.specs.Option.{option_map_or}
@@ -14,7 +14,7 @@ use Rattle.rustc_demangle.specs.declared.format.Format.{Format}
 use Rattle.rustc_demangle.proofs.SymbolLemmas.{pieces-symbol, symbol-pieces}
 use Rattle.rustc_demangle.specs.Filtered.{by_runs, is_run_byte, starts_run, filtered_by, replacement_in, replacement}
 
--- what is skipped is left out
+-- skipped bytes are omitted
 pub filtered_skip : (f : List ℕ → List ℕ) (n : ℕ) (s : List ℕ) → filtered_by f n s ≡ filtered_by f zero (drop n s)
 unfolding by_runs
 filtered_skip f zero [] = refl
@@ -22,25 +22,25 @@ filtered_skip f (suc n) [] = refl
 filtered_skip f zero (c ∷ s) = refl
 filtered_skip f (suc n) (c ∷ s) = filtered_skip f n s
 
--- one turn, by whether a run begins
+-- one iteration, by whether a run starts
 abbrev pub turn : (List ℕ → List ℕ) → ℕ → List ℕ → Bool → List ℕ
 turn f c s b = elim b [
   | true ↦ f (c ∷ take_while is_run_byte s) ++ filtered_by f (prefix_len is_run_byte s) s
   | false ↦ c ∷ filtered_by f zero s
 ]
 
--- where no run begins, the character is kept
+-- if no run starts, the character is unchanged
 pub filtered_other : (f : List ℕ → List ℕ) (c : ℕ) (s : List ℕ) → starts_run (c ∷ s) ≡ false → filtered_by f zero (c ∷ s) ≡ c ∷ filtered_by f zero s
 unfolding by_runs
 filtered_other f c s none = ap (turn f c s) none
 
--- where one begins, it is replaced
+-- if a run starts, it is replaced
 pub filtered_first : (f : List ℕ → List ℕ) (c : ℕ) (s : List ℕ) → starts_run (c ∷ s) ≡ true
     → filtered_by f zero (c ∷ s) ≡ f (c ∷ take_while is_run_byte s) ++ filtered_by f zero (drop (prefix_len is_run_byte s) s)
 unfolding by_runs
 filtered_first f c s some = ap (turn f c s) some ∙ ap (λ l. f (c ∷ take_while is_run_byte s) ++ l) (filtered_skip f (prefix_len is_run_byte s) s)
 
--- a run begins with `_ZN` or `_R`
+-- a run starts with `_ZN` or `_R`
 pub begins_with : (s : List ℕ) → starts_run s ≡ true → (t : List ℕ) × ((s ≡ codes "_ZN" ++ t) ⊎ (s ≡ codes "_R" ++ t))
 begins_with s some = at (starts_with nat_eq s (codes "_ZN")) refl some
   where
@@ -57,7 +57,7 @@ pub run_some : (s : List ℕ) → starts_run s ≡ true → (0 < length s) × (0
 run_some [] some = absurd (elim ((begins_with [] some).1) [ inl e ↦ cc | inr e ↦ cc ])
 run_some (c ∷ s) some = (omega arith, rw (first_of_run (c ∷ s) some) (omega arith))
 
--- the same, of the whole list: a run of its first bytes, and what is behind it
+-- the same for the whole list: a run at its start, and the text after it
 pub filtered_run : (f : List ℕ → List ℕ) (s : List ℕ) → starts_run s ≡ true
     → filtered_by f zero s ≡ f (take (prefix_len is_run_byte s) s) ++ filtered_by f zero (drop (prefix_len is_run_byte s) s)
 filtered_run f [] some = absurd (omega (arith, (run_some [] some).0))
@@ -66,7 +66,7 @@ filtered_run f (c ∷ s) some =
     let count : prefix_len is_run_byte (c ∷ s) ≡ suc (prefix_len is_run_byte s) = ap (λ b. cond b (1 + prefix_len is_run_byte s) 0) (ap is_run_byte first) ∙ omega arith in
     filtered_first f c s some ∙ ap (λ n. f (take n (c ∷ s)) ++ filtered_by f zero (drop n (c ∷ s))) (sym count)
 
--- Where a line may be cut: in front of a run, and behind it.
+-- A line may be split before a run and after it.
 pub cut_before : (s : List ℕ) (n : ℕ) → n < length s → starts_run (drop n s) ≡ true → IsCharBoundary s n
 cut_before s n lt some =
     let at : n + 0 ≡ n = omega arith in
@@ -84,14 +84,14 @@ cut_after s utf8 some =
     let le : n ≤ length s = prefix_len-le-length is_run_byte s in
     subst (IsCharBoundary s) (omega arith) (IsCharBoundary-after_ascii s (n - 1) utf8 (omega arith) last)
 
--- a text in which no run begins is kept
+-- a text in which no run starts is unchanged
 pub filtered_all : (f : List ℕ → List ℕ) (s : List ℕ) → ((k : ℕ) → k < length s → starts_run (drop k s) ≡ false) → filtered_by f zero s ≡ s
 unfolding by_runs
 filtered_all f [] none = refl
 filtered_all f (c ∷ s) none =
     filtered_other f c s (none 0 (omega arith)) ∙ ap (λ l. c ∷ l) (filtered_all f s (λ k lt. none (suc k) (omega arith)))
 
--- a symbol is replaced by what it prints
+-- a run that is a symbol is replaced by the text that the symbol prints
 pub replacement_in-symbol : (format : Format) (run : List ℕ) → IsSymbol (stripped run) → replacement_in format run ≡ concat (handed_in (stripped run) format)
 replacement_in-symbol format run symbol =
     ap (λ read. option_map_or (λ (_ : List (List ℕ) × List ℕ). concat (handed_in (stripped run) format)) read run) (pieces-symbol (form_of format) (stripped run) symbol).1
@@ -99,7 +99,7 @@ replacement_in-symbol format run symbol =
 pub replacement-symbol : (h : Bool) (run : List ℕ) → IsSymbol (stripped run) → replacement h run ≡ printed (stripped run) h
 replacement-symbol h run symbol = replacement_in-symbol (unfolded h most_bytes) run symbol
 
--- and what is none stays
+-- a run that is not a symbol is unchanged
 pub replacement_in-no_symbol : (format : Format) (run : List ℕ) → (IsSymbol (stripped run) → ⊥) → replacement_in format run ≡ run
 replacement_in-no_symbol format run none = at (pieces_in (form_of format) (stripped run)) refl
   where
@@ -110,7 +110,7 @@ replacement_in-no_symbol format run none = at (pieces_in (form_of format) (strip
 pub replacement-no_symbol : (h : Bool) (run : List ℕ) → (IsSymbol (stripped run) → ⊥) → replacement h run ≡ run
 replacement-no_symbol h run none = replacement_in-no_symbol (unfolded h most_bytes) run none
 
--- Where the run that was found may be cut off, by the values of the code.
+-- The run that was found may be split off, by the values of the code.
 pub cut_at : (rest bytes found bytes' : List ℕ) (n m : ℕ) → IsUtf8 bytes' → bytes ≡ rest → starts_run (drop n bytes) ≡ true → found ≡ drop n rest
     → bytes' ≡ found → m ≡ prefix_len is_run_byte bytes' → IsCharBoundary found m
 cut_at rest bytes found bytes' n m utf8 b some f b' count =

@@ -1,4 +1,4 @@
--- What a symbol of each scheme hands over, and where its run begins, by the relations of the schemes.
+-- The pieces of a symbol of each scheme, and the start of its run, by the relations of the schemes.
 use Rattle.std.proofs.Common.{◌≡◌, ◌⊎◌, inl, inr, ℕ, true, List, [], ◌∷◌, ◌++◌, drop, get_or, codes, Some, sym, ap, ◌∙◌, arith}
 use Rattle.std.specs.Option.{option_map_or}
 use Rattle.demangle_sink.specs.Cut.{cut, kept}
@@ -52,7 +52,7 @@ pub one-scheme : (text : List ℕ) (elements : List (List ℕ)) (inner suffix ot
 one-scheme text elements inner suffix other legacy v0 =
     none≢some (sym (no_legacy text inner other v0) ∙ legacy_spelled text elements suffix legacy)
 
--- a run begins at the underscore in front, or behind it
+-- a run starts at the underscore, or after it
 abbrev Begun : List ℕ → Type 0
 Begun text = (starts_run (codes "_" ++ text) ≡ true) ⊎ (starts_run text ≡ true)
 

@@ -1,4 +1,4 @@
--- Bytes that are laid into memory one after the other.
+-- Bytes that are written to memory in sequence.
 use Rattle.std.proofs.Common.{◌≡◌, ℕ, List, [], ◌∷◌, length, Result, Ok, Err, IsOk, OnOk, OnErr, true, false, refl, ◌∙◌}
 use Rattle.demangle_sink.specs.declared.slice_sink.SliceSink.{SliceSink}
 use Rattle.demangle_sink.specs.declared.SinkRefused.{SinkRefused}
@@ -10,7 +10,7 @@ use Rattle.demangle_sink.specs.Writes.{Writes}
 use Rattle.demangle_sink.proofs.PutsPiecesLemmas.{puts_put}
 use Rattle.demangle_sink.proofs.Writing.{puts_writes}
 
--- by what `put_bytes` promises
+-- by the contract of `put_bytes`
 pub slice_puts : (old : SliceSink) (s : List ℕ) (result : Result (Unit {0}) SinkRefused) (new : SliceSink)
     → OnOk result (ghosts.took old s new)
     → OnOk result (ghosts.failed new ≡ false)

@@ -1,4 +1,4 @@
--- What is stripped, by the first place where `.llvm.` stands.
+-- The text that is stripped, by the first place of `.llvm.`.
 use Rattle.std.proofs.Common.{◌≡◌, ℕ, zero, suc, ◌≤◌, Bool, true, false, cond, List, [], ◌∷◌, ◌++◌, length, take, drop, refl, sym, ap, ◌∙◌, arith, nat_eq}
 use Rattle.std.specs.Prelude.{codes}
 use Rattle.std.specs.List.{starts_with, list_all}
@@ -38,7 +38,7 @@ later : (c : ℕ) (s : List ℕ) (b : Bool) → starts_with nat_eq (c ∷ s) (co
 later c s true e below = ([], drop 6 (c ∷ s), first_here (c ∷ s) e)
 later c s false e below = let cut = below refl in (c ∷ cut.0, cut.1, first_later c s cut.0 cut.1 e cut.2)
 
--- where it stands at all, it stands somewhere first
+-- if the text has `.llvm.`, it has a first one
 first_cut : (s : List ℕ) (i : ℕ) (rest : List ℕ) → drop i s ≡ ending rest → (prefix : List ℕ) × (end : List ℕ) × IsCut s prefix end
 first_cut [] zero rest h = cc
 first_cut [] (suc i) rest h = cc

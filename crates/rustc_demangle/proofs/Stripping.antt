@@ -33,7 +33,7 @@ stripped_none (c ∷ s) h = ap (λ t. c ∷ t) (stripped_none s (λ i l. h (suc 
 begins_ending : (t rest : List ℕ) → t ≡ ending rest → starts_with nat_eq t (codes ".llvm.") ≡ true
 begins_ending t rest e = ap (λ z. starts_with nat_eq z (codes ".llvm.")) e
 
--- a text without an ending that is cut off
+-- a text without a suffix of ThinLTO
 abbrev Uncut : List ℕ → Type 0
 Uncut s = (i : ℕ) (rest : List ℕ) → drop i s ≡ ending rest → list_all is_thin_lto rest ≡ true → ⊥
 
@@ -49,7 +49,7 @@ stripped_uncut [] h = refl
 stripped_uncut (c ∷ s) h =
     uncut_here c s (starts_with nat_eq (c ∷ s) (codes ".llvm.")) (list_all is_thin_lto (drop 5 s)) refl refl h (stripped_uncut s (λ i rest e t. h (suc i) rest e t))
 
--- the last `.` does not end a `.llvm.`
+-- the last `.` is not the end of a `.llvm.`
 pub stripped_undotted_end : (s : List ℕ) (dot : ℕ) → dot < length s → get_or s dot 0 ≡ 46 → Nowhere (Passes (is_byte 46) s) (dot + 1) (length s)
     → (5 ≤ dot → starts_with nat_eq (drop (dot - 5) s) (codes ".llvm.") ≡ false) → s ≡ stripped s
 stripped_undotted_end s dot low hit none other = stripped_uncut s (λ i rest e thin.
@@ -69,7 +69,7 @@ stripped_undotted_end s dot low hit none other = stripped_uncut s (λ i rest e t
       ]
     ])
 
--- no `.` at all
+-- the text has no `.`
 pub stripped_undotted : (s : List ℕ) → Nowhere (Passes (is_byte 46) s) 0 (length s) → s ≡ stripped s
 stripped_undotted s h = stripped_none s (λ i l rest e.
     let inside : i < length s = omega (arith, length-drop i s, ap length e) in
@@ -89,7 +89,7 @@ stripped_at (suc i) (c ∷ s) rest h e =
       both true = refl
       both false = refl
 
--- what is split off at the first `.llvm.` is cut off where it may be
+-- the text after the first `.llvm.` is removed if it may be
 pub stripped_split : (s a b : List ℕ) → SplitsAroundMatch (FindsText (codes ".llvm.")) s a b → stripped s ≡ cond (list_all is_thin_lto b) a s
 stripped_split s a b h =
     let split : drop h.0 s ≡ ending (drop h.1 s) = h.2.1.split in
@@ -97,7 +97,7 @@ stripped_split s a b h =
     ∙ ap (λ r. cond (list_all is_thin_lto r) (take h.0 s) s) (sym h.4)
     ∙ ap (λ x. cond (list_all is_thin_lto b) x s) (sym h.3)
 
--- an ASCII text stays so without its ending
+-- an ASCII text stays ASCII without its suffix
 pub IsAscii-stripped : (s : List ℕ) → IsAscii s → IsAscii (stripped s)
 unfolding stripped
 IsAscii-stripped [] h = h
@@ -107,7 +107,7 @@ IsAscii-stripped (c ∷ s) h = go (starts_with nat_eq (c ∷ s) (codes ".llvm.")
   go true false rest = h
   go false d rest = IsAscii-cons c (stripped s) (h 0) rest
 
--- a longer text begins with it too
+-- a longer text starts with it too
 begins-append : (t ys : List ℕ) → starts_with nat_eq t (codes ".llvm.") ≡ true → starts_with nat_eq (t ++ ys) (codes ".llvm.") ≡ true
 begins-append t ys e = ap (λ z. starts_with nat_eq (z ++ ys) (codes ".llvm.")) (begins t e)
 
@@ -116,7 +116,7 @@ prefix_of c s prefix true true below = (c ∷ s, refl)
 prefix_of c s prefix true false below = ([], sym (append-nil (c ∷ s)))
 prefix_of c s prefix false t below = (below.0, ap (λ z. c ∷ z) below.1)
 
--- the stripped text is a beginning
+-- the stripped text is a prefix
 pub stripped_prefix : (s : List ℕ) → (rest : List ℕ) × (s ≡ stripped s ++ rest)
 unfolding stripped
 stripped_prefix [] = ([], refl)

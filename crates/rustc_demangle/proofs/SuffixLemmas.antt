@@ -1,4 +1,4 @@
--- How a suffix is tested, a byte at a time.
+-- The test of a suffix, a byte at a time.
 use Rattle.std.proofs.Common.{◌≡◌, ℕ, zero, suc, ◌+◌, ◌<◌, Bool, true, false, ◌&&◌, List, [], ◌∷◌, length, drop, get_or, Some, ◌≤◌, sym, refl, ap, ◌∙◌, arith}
 use Rattle.std.specs.List.{list_all, slice_get}
 use Rattle.std.proofs.lemmas.List.{drop_all}
@@ -14,7 +14,7 @@ list_all-drop p (x ∷ xs) (suc i) h = list_all-drop p xs i (omega arith)
 add-one' : (i : ℕ) → i + 1 ≡ suc i
 add-one' i = omega arith
 
--- a byte that is graphic leaves the rest to be tested
+-- after a graphic byte, the rest is tested
 pub graphic_more : (s : List ℕ) (i b : ℕ) → slice_get s i ≡ Some b → is_graphic b ≡ true → list_all is_graphic (drop i s) ≡ list_all is_graphic (drop (i + 1) s)
 graphic_more s i b here passes =
     let within : i < length s = slice_get_within s i b here in
@@ -23,7 +23,7 @@ graphic_more s i b here passes =
     ∙ ap (λ x. x && list_all is_graphic (drop (suc i) s)) (ap is_graphic is ∙ passes)
     ∙ ap (λ k. list_all is_graphic (drop k s)) (sym (add-one' i))
 
--- and one that is not decides it
+-- a byte that is not graphic fails the test
 pub graphic_not : (s : List ℕ) (i b : ℕ) → slice_get s i ≡ Some b → is_graphic b ≡ false → list_all is_graphic (drop i s) ≡ false
 graphic_not s i b here fails =
     let within : i < length s = slice_get_within s i b here in
@@ -31,11 +31,11 @@ graphic_not s i b here fails =
     list_all-drop is_graphic s i within
     ∙ ap (λ x. x && list_all is_graphic (drop (suc i) s)) (ap is_graphic is ∙ fails)
 
--- nothing is left at the end
+-- at the end, nothing is left to test
 pub graphic_end : (s : List ℕ) (i : ℕ) → length s ≤ i → list_all is_graphic (drop i s) ≡ true
 graphic_end s i h = ap (λ xs. list_all is_graphic xs) (drop_all i s h)
 
--- behind the dot the characters are graphic
+-- after the dot, the characters are graphic
 pub allowed_dot : (s : List ℕ) → is_byte s 0 46 ≡ true → is_allowed s ≡ list_all is_graphic (drop 1 s)
 unfolding is_byte
 allowed_dot [] h = cc

@@ -1,4 +1,4 @@
--- What every symbol is: ASCII, and of bounded text.
+-- Facts on every symbol: it is ASCII, and its text is bounded.
 use Rattle.std.proofs.Common.{◌≡◌, ℕ, ◌+◌, ◌<◌, ◌≤◌, Bool, true, false, cond, ◌&&◌, List, [], ◌∷◌, length, drop, refl, sym, subst, arith, inl, inr, nat_eq}
 use Rattle.std.specs.Prelude.{codes, IsAscii, IsUtf8}
 use Rattle.std.specs.List.{concat, starts_with, list_all}
@@ -39,7 +39,7 @@ ending_ascii rest h =
     let lv = two 108 118 (109 ∷ 46 ∷ rest) (omega arith) (omega arith) vm in
     two 46 108 (108 ∷ 118 ∷ 109 ∷ 46 ∷ rest) (omega arith) (omega arith) lv
 
--- a text is ASCII where it is so without its ending
+-- a text is ASCII if it is ASCII without its suffix
 stripped_ascii : (s : List ℕ) → IsAscii (stripped s) → IsAscii s
 unfolding stripped
 stripped_ascii [] h = h

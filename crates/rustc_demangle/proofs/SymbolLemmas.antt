@@ -1,4 +1,4 @@
--- What a text hands over, by what was read of it.
+-- The pieces of a text, by the result of parsing it.
 use Rattle.std.proofs.Common.{◌≡◌, ℕ, zero, suc, ◌+◌, ◌*◌, ◌≤◌, Bool, true, false, List, [], ◌∷◌, ◌++◌, length, Option, None, Some, sym, refl, ap, ◌∙◌, subst, arith, option_map, cond, drop, inl, inr}
 use Rattle.std.specs.Option.{option_map_or, is_some, option_or}
 use Rattle.std.proofs.lemmas.List.{length-append}
@@ -18,7 +18,7 @@ use Rattle.rustc_demangle.specs.declared.value.DemangleStyle.TheVariants.{Legacy
 use Rattle.demangle_legacy.proofs.LegacyLaws.{legacy_no_prefix, legacy_read, legacy_spelled}
 use Rattle.demangle_v0_grammar.proofs.V0Reading.{read_is_v0, v0_is_read}
 
--- a text without a style hands over itself
+-- a text without a style is one piece
 pub handed-none : (text : List ℕ) (format : Format) → HasNoStyle text → handed_in text format ≡ text ∷ []
 handed-none text format none =
     ap (λ read. option_map_or (λ (r : List (List ℕ) × List ℕ). cut r.0 format.limit ++ r.1 ∷ []) read (text ∷ [])) (none (form_of format))
@@ -51,14 +51,14 @@ legacy_parts form read = (legacy_pieces form.include_hash read.0, read.1)
 abbrev v0_parts : Form → List ℕ × List ℕ → List (List ℕ) × List ℕ
 v0_parts form read = (path_texts read.0 form, read.1)
 
--- what a legacy symbol hands over
+-- the pieces of a legacy symbol
 pub pieces-legacy : (form : Form) (text : List ℕ) (elements : List (List ℕ)) (suffix : List ℕ) → legacy_of text ≡ Some (elements, suffix) → is_allowed suffix ≡ true
     → pieces_in form text ≡ Some (legacy_pieces form.include_hash elements, suffix)
 pieces-legacy form text elements suffix e allowed =
     ap (λ read. if_allowed (option_or (option_map (legacy_parts form) read) (option_map (v0_parts form) (v0_of text)))) e
     ∙ ap (λ b. cond b (Some (legacy_pieces form.include_hash elements, suffix)) None) allowed
 
--- what a v0 symbol hands over
+-- the pieces of a v0 symbol
 pub pieces-v0 : (form : Form) (text inner suffix : List ℕ) → v0_of text ≡ Some (inner, suffix) → is_allowed suffix ≡ true
     → pieces_in form text ≡ Some (path_texts inner form, suffix)
 pieces-v0 form text inner suffix e allowed =
@@ -66,7 +66,7 @@ pieces-v0 form text inner suffix e allowed =
     ∙ ap (λ read. if_allowed (option_map (v0_parts form) read)) e
     ∙ ap (λ b. cond b (Some (path_texts inner form, suffix)) None) allowed
 
--- a text that no scheme reads, or with another suffix, hands over itself
+-- a text that no scheme accepts, or with another suffix, is one piece
 pub no_pieces : (form : Form) (text : List ℕ) → legacy_of text ≡ None → v0_of text ≡ None → pieces_in form text ≡ None
 no_pieces form text legacy v0 =
     ap (λ read. if_allowed (option_or (option_map (legacy_parts form) read) (option_map (v0_parts form) (v0_of text)))) legacy
@@ -86,7 +86,7 @@ no_pieces-v0 form text inner suffix e other =
 pub none≢some : {x : List (List ℕ) × List ℕ} → None ≡ Some x → ⊥
 none≢some h = cc
 
--- what has pieces is a symbol
+-- a text that has pieces is a symbol
 pub symbol-pieces : (form : Form) (text : List ℕ) (r : List (List ℕ) × List ℕ) → pieces_in form text ≡ Some r → IsSymbol text
 symbol-pieces form text r e = let h = allowed-some (read_in form text) r e in go (legacy_of text) (v0_of text) refl refl h.0 h.1 where
   suffix_is : (x y : List (List ℕ) × List ℕ) → Some x ≡ Some y → x.1 ≡ y.1
@@ -98,7 +98,7 @@ symbol-pieces form text r e = let h = allowed-some (read_in form text) r e in go
   go None (Some p) legacy v0 e allowed = inr (p.0, p.1, read_is_v0 text p.0 p.1 v0, ap is_allowed (suffix_is (v0_parts form p) r e) ∙ allowed)
   go None None legacy v0 e allowed = cc
 
--- and a symbol has pieces
+-- a symbol has pieces
 pub pieces-symbol : (form : Form) (text : List ℕ) → IsSymbol text → (r : List (List ℕ) × List ℕ) × (pieces_in form text ≡ Some r)
 pieces-symbol form text (inl (elements, suffix, legacy, allowed)) =
     ((legacy_pieces form.include_hash elements, suffix), pieces-legacy form text elements suffix (legacy_spelled text elements suffix legacy) allowed)
@@ -110,7 +110,7 @@ pub styled-pieces : (form : Form) (text : List ℕ) (style : DemangleStyle) (suf
 styled-pieces form text (Legacy symbol) suffix has = pieces-legacy form text (elements_of symbol) suffix has.read has.allowed
 styled-pieces form text (V0 symbol) suffix has = pieces-v0 form text symbol suffix has.read has.allowed
 
--- a symbol hands over its pieces within the limit, and its suffix
+-- a symbol prints its pieces within the limit, and its suffix
 pub handed-some : (text : List ℕ) (format : Format) (style : DemangleStyle) (suffix : List ℕ) → HasStyle text style suffix
     → handed_in text format ≡ cut (style_pieces (form_of format) style) format.limit ++ suffix ∷ []
 handed-some text format style suffix has =
@@ -121,7 +121,7 @@ pub kept_in-some : (text : List ℕ) (format : Format) (style : DemangleStyle) (
 kept_in-some text format style suffix has =
     ap (λ read. option_map_or (λ (r : List (List ℕ) × List ℕ). kept r.0 format.limit) read 0) (styled-pieces (form_of format) text style suffix has)
 
--- what it costs to print a text with this style
+-- the looks of printing a text with this style
 style_looks-most : (text : List ℕ) (format : Format) (style : DemangleStyle) (suffix : List ℕ) → HasStyle text style suffix
     → style_looks (form_of format) format.limit style ≤ 100000 * (kept_in text format + 1) * (length text + 1)
 style_looks-most text format (Legacy symbol) suffix has =
@@ -147,7 +147,7 @@ symbol_styled text style suffix has = symbol-pieces (form true false) text (styl
 pub no_symbol_unstyled : (text : List ℕ) → HasNoStyle text → IsSymbol text → ⊥
 no_symbol_unstyled text none symbol = let some = pieces-symbol (form true false) text symbol in none≢some (sym (none (form true false)) ∙ some.1)
 
--- what printing a text with this style looks at, and one without a style
+-- the looks of printing a text with this style, and one without a style
 pub styled_looks : (text : List ℕ) (format : Format) (style : DemangleStyle) (suffix : List ℕ) (old new : ℕ) → HasStyle text style suffix
     → old ≤ new → new ≤ old + style_looks (form_of format) format.limit style → old + style_least style ≤ new → PrintingLooksIn text format old new
 styled_looks text format style suffix old new has grows most least = record {
@@ -175,7 +175,7 @@ pub unstyled_no_symbol : (style : Option DemangleStyle) (text suffix : List ℕ)
 unstyled_no_symbol None text suffix is e = no_symbol_unstyled text is
 unstyled_no_symbol (Some style) text suffix is e = absurd (true≢false e)
 
--- what follows the elements is a part of the text
+-- the rest after the elements is a part of the text
 pub elements-shorter : (elements : List (List ℕ)) (text suffix : List ℕ) → IsElements elements text suffix → length suffix ≤ length text
 elements-shorter [] text suffix is = omega (arith, ap length is)
 elements-shorter (element ∷ elements) text suffix is =
@@ -204,7 +204,7 @@ pub style_suffix-shorter : (text : List ℕ) (style : DemangleStyle) (suffix : L
 style_suffix-shorter text (Legacy symbol) suffix read = suffix-shorter text (elements_of symbol) suffix read
 style_suffix-shorter text (V0 symbol) suffix read = v0_suffix-shorter text symbol suffix read
 
--- with a suffix that is not allowed there is no style
+-- a text with a suffix that is not allowed has no style
 pub not_allowed_unstyled : (text : List ℕ) (style : DemangleStyle) (suffix : List ℕ) → IsReadAs text style suffix → is_allowed suffix ≡ false → HasNoStyle text
 not_allowed_unstyled text (Legacy symbol) suffix read other form = no_pieces-legacy form text (elements_of symbol) suffix read other
 not_allowed_unstyled text (V0 symbol) suffix read other form = no_pieces-v0 form text symbol suffix read other

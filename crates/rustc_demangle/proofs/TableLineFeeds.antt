@@ -1,4 +1,4 @@
--- No row of the table says a line feed.
+-- No row of the table prints a line feed.
 use Rattle.std.proofs.Common.{◌≡◌, ◌≢◌, ◌==◌, ℕ, Bool, true, false, cond, List, [], ◌∷◌, Option, None, Some, refl, arith, codes}
 use Rattle.std.specs.Prelude.{decimal}
 use Prim.Native.Char.{code}

@@ -1,5 +1,5 @@
--- Texts with what is stripped of them, which suffixes are allowed, and lines with what is written for them, by computation:
--- the definitions are those of the Rust crate here.
+-- Texts with their stripped form, allowed suffixes, and lines with their filtered form, all by computation. They show
+-- that these definitions agree with the Rust crate.
 use Rattle.std.specs.Prelude.{◌≡◌, ℕ, true, false, List, [], ◌∷◌, ◌++◌, map, codes, refl}
 use Rattle.std.specs.List.{concat}
 use Rattle.std.specs.Char.{encode_utf8}
@@ -55,7 +55,7 @@ with_hash : map (filtered true) texts ≡
 unfolding by_runs stripped number inner_of element_of parts_within parts_of legacy_of escape_of_digits escape_of leading_unit pieces_from unescaped printed_elements encode_utf8 v0_in v0_of
 with_hash = refl
 
--- `_ZN3fooE` and a byte of ASCII behind it, for each of these bytes
+-- `_ZN3fooE` followed by a byte of ASCII, for each of these bytes
 abbrev before_each : List ℕ → List (List ℕ)
 before_each bytes = map (λ b. codes "_ZN3fooE" ++ b ∷ []) bytes
 
@@ -65,7 +65,7 @@ ends =
     0 ∷ 1 ∷ 2 ∷ 3 ∷ 4 ∷ 5 ∷ 6 ∷ 7 ∷ 8 ∷ 9 ∷ 10 ∷ 11 ∷ 12 ∷ 13 ∷ 14 ∷ 15 ∷ 16 ∷ 17 ∷ 18 ∷ 19 ∷ 20 ∷ 21 ∷ 22 ∷ 23 ∷ 24 ∷ 25 ∷ 26 ∷ 27 ∷ 28 ∷ 29 ∷ 30 ∷ 31 ∷ 127 ∷
     codes " !\"#%&'()*+,-/:;<=>?@[\\]^`{|}~"
 
--- the bytes that go on with it, but for `.`, which begins a suffix
+-- the bytes that continue a run, except for `.`, which starts a suffix
 abbrev extends_prefix : List ℕ
 extends_prefix = codes "$0123456789ABCDEFGHIJKLMNOPQRSTUVWXYZ_abcdefghijklmnopqrstuvwxyz"
 
@@ -81,7 +81,7 @@ run_has_a_suffix : filtered true (codes "_ZN3fooE.") ≡ codes "foo."
 unfolding by_runs stripped number inner_of element_of parts_within parts_of legacy_of escape_of_digits escape_of leading_unit pieces_from unescaped printed_elements encode_utf8 v0_in v0_of
 run_has_a_suffix = refl
 
--- the text under a limit, with the marker where it is cut, and the suffix
+-- the text under a limit, with the marker if it is cut, and the suffix
 limited : map (λ limit. concat (handed (codes "_ZN3foo3barE.x") true limit)) (0 ∷ 2 ∷ 3 ∷ 4 ∷ 5 ∷ 7 ∷ 8 ∷ []) ≡
     codes "{size limit reached}.x" ∷
     codes "{size limit reached}.x" ∷

@@ -25,7 +25,7 @@ unfolding levels
 levels_clear symbol folds zero none = tt
 levels_clear symbol folds (suc n) none = let d : LevelsClear (levels symbol folds n) = levels_clear symbol folds n none in (level_clear symbol folds (levels symbol folds n) none d, d)
 
--- any unit, at any depth
+-- any production, at any depth
 read_clear : (symbol : List ℕ) (folds printed : Bool) (kind : Kind) (i depth lifetimes : ℕ) (value : Bool) → line_feeds symbol ≡ 0 → IsClear (read_at symbol folds printed kind i depth lifetimes value).tree
 unfolding read_at
 read_clear symbol folds printed kind i depth lifetimes value none =

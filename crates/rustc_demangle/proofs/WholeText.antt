@@ -1,4 +1,4 @@
--- A text that is filtered whole is its lines, each filtered.
+-- A filtered text is its lines, each filtered.
 use Rattle.std.proofs.Common.{◌≡◌, ℕ, zero, suc, ◌+◌, ◌≤◌, Bool, true, false, ◌&&◌, eqb, cond, List, [], ◌∷◌, ◌++◌, refl, sym, ap, subst, ◌∙◌, arith, nat_eq, codes, eqb-true, append_assoc, ◌||◌}
 use Rattle.std.specs.List.{prefix_len, take_while, starts_with}
 use Rattle.std.proofs.lemmas.List.Sums.{take_while-cons}
@@ -16,7 +16,7 @@ first-onto : (b : ℕ) (ls : List (List ℕ)) → first (onto_first b ls) ≡ b 
 first-onto b [] = refl
 first-onto b (l ∷ ls) = refl
 
--- the first line, by its first byte
+-- the first line, by the first byte of the text
 by : (b : ℕ) (bs : List ℕ) (P : List ℕ → Type 0) → (b ≡ 10 → P (b ∷ [])) → (eqb b 10 ≡ false → P (b ∷ first (lines bs))) → P (first (lines (b ∷ bs)))
 unfolding lines
 by b bs P fed other = at (eqb b 10) refl
@@ -103,11 +103,11 @@ unfolding by_runs
 out-onto_run h b [] some = ap (λ t. turn (replacement h) b [] t ++ []) some ∙ append_assoc (replacement h (b ∷ [])) [] []
 out-onto_run h b (l ∷ ls) some = ap (λ t. turn (replacement h) b l t ++ output_of h ls) some ∙ append_assoc (replacement h (b ∷ take_while is_run_byte l)) (filtered_by (replacement h) (prefix_len is_run_byte l) l) (output_of h ls)
 
--- the first line of a text that begins with no line feed
+-- the first line of a text that does not start with a line feed
 first_more : (b : ℕ) (bs : List ℕ) → eqb b 10 ≡ false → first (lines (b ∷ bs)) ≡ b ∷ first (lines bs)
 first_more b bs e = by b bs (λ l. l ≡ b ∷ first (lines bs)) (λ ten. absurd (true≢false (sym (ap (λ c. eqb c 10) ten) ∙ e))) (λ _. refl)
 
--- what is behind is filtered so already
+-- the rest is filtered so already
 turned : (h : Bool) (b : ℕ) (bs : List ℕ) → ((k : ℕ) → k ≤ clear bs → filtered_by (replacement h) k bs ≡ out_from h k (lines bs)) → eqb b 10 ≡ false
     → (r : Bool) → starts_run (b ∷ bs) ≡ r → turn (replacement h) b bs r ≡ out_from h zero (onto_first b (lines bs))
 turned h b bs ih e true is =

@@ -26,7 +26,8 @@ pub record FilteredPrefix (filter : List ℕ → List ℕ) (held left : List ℕ
   pub uncut : SplitsNoRun prefix left
   pub wrote : Appends old new (filter prefix)
 
--- `FilteredPrefix` holds for every text that may follow the bytes that the reader shows. The first `n` of them are used.
+-- `FilteredPrefix` holds for every text that may follow the bytes that the reader shows. The first `n` of them are
+-- used.
 abbrev pub FilteredChunkPrefix : (List ℕ → List ℕ) → List ℕ → List ℕ → List ℕ → ℕ → Option (List ℕ) → Option (List ℕ) → Type 0
 FilteredChunkPrefix filter pending available next n old new =
     (more : List ℕ) → FilteredPrefix filter (pending ++ (available ++ more)) (next ++ (drop n available ++ more)) old new

@@ -28,7 +28,7 @@ pub use Rattle.demangle_symbol.specs.Literals
 pub use Rattle.demangle_legacy.specs.Legacy
 pub use Rattle.demangle_legacy.specs.Unescaped
 pub use Rattle.demangle_legacy.specs.UnescapedRelation
--- and of demangle_grammar
+-- and of demangle_v0_grammar
 pub use Rattle.demangle_v0_grammar.specs.Items
 pub use Rattle.demangle_v0_grammar.specs.Table
 pub use Rattle.demangle_v0_grammar.specs.LookBudget

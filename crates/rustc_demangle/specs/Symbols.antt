@@ -27,8 +27,8 @@ abbrev pub if_allowed : {A : Type 0} → Option (A × List ℕ) → Option (A ×
 if_allowed None = None
 if_allowed (Some (x, suffix)) = if is_allowed suffix then Some (x, suffix) else None
 
--- The pieces and the suffix of a text in the scheme that accepts it, in a form. The arguments of a legacy symbol are parts of
--- names, so only a v0 symbol has arguments to fold. No text has a prefix of both schemes.
+-- The pieces and the suffix of a text in the scheme that accepts it, in a form. The arguments of a legacy symbol are
+-- parts of names, so only a v0 symbol has arguments to fold. No text has a prefix of both schemes.
 abbrev pub read_in : Form → List ℕ → Option (List (List ℕ) × List ℕ)
 read_in form text = option_or (option_map (λ read. (legacy_pieces form.include_hash read.0, read.1)) (legacy_of text))
     (option_map (λ read. (path_texts read.0 form, read.1)) (v0_of text))

@@ -1,4 +1,4 @@
--- What entries hold after more bytes are appended.
+-- The contents of entries after more bytes are appended.
 use Rattle.std.proofs.Common.{◌≡◌, ℕ, ◌+◌, ◌-◌, ◌<◌, ◌≤◌, List, [], ◌∷◌, ◌++◌, length, take, drop, refl, ap, sym, subst, ◌∙◌, arith, slice_index_or, slice_set, append_assoc, length-append, length-drop}
 use Rattle.std.specs.List.{All}
 use Rattle.std.proofs.lemmas.List.{take-append-le, drop-append-le, take_all}
@@ -30,14 +30,14 @@ pairs_appended text_for bytes more pairs all = λ k d lt.
     let both = all k d lt in
     (entry_appended text_for bytes more (slice_index_or pairs k d).newer both.0, entry_appended text_for bytes more (slice_index_or pairs k d).older both.1)
 
--- one entry more
+-- one more entry
 pub pair_put : (text_for : List ℕ → List ℕ) (bytes : List ℕ) (pairs : List Pair) (i : ℕ) (entry : Entry) (pair : Pair) → All (HoldsBoth text_for bytes) pairs → Holds text_for bytes entry
     → i < length pairs → pair ≡ slice_index_or pairs i pair → All (HoldsBoth text_for bytes) (slice_set pairs i (record { newer = entry; older = pair.newer }))
 pair_put text_for bytes pairs i entry pair all holds lt is =
     let both : HoldsBoth text_for bytes pair = subst (HoldsBoth text_for bytes) (sym is) (All-get_or (HoldsBoth text_for bytes) pairs i pair lt all) in
     All-set (HoldsBoth text_for bytes) pairs i (record { newer = entry; older = pair.newer }) (holds, both.0) all
 
--- the entry of a key and its text that were appended
+-- the entry of a key and its text, which were appended
 pub new_entry : (text_for : List ℕ → List ℕ) (bytes key text all : List ℕ) (entry : Entry) → all ≡ (bytes ++ key) ++ text → entry.start ≡ length bytes → entry.key_len ≡ length key → entry.text_len ≡ length text
     → text ≡ text_for key → Holds text_for all entry
 new_entry text_for bytes key text all entry whole from one two same some =

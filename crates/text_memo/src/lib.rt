@@ -13,7 +13,7 @@ mod tests;
 /// The number of pairs of entries. The hash of a key chooses its pair.
 const PAIRS: usize = 8192;
 
-/// The number of slots for the marks of keys.
+/// The number of slots for the fingerprints of keys.
 const FINGERPRINTS: usize = 8192;
 
 /// The longest key of an entry.
@@ -60,10 +60,10 @@ const NO_PAIR: Pair = Pair {
     older: NO_ENTRY,
 };
 
-/// How a key was noted before. Another key may have the same mark.
+/// How a key was noted before. Another key may have the same fingerprint.
 #[derive(Clone, Copy, Debug, PartialEq, Eq)]
 pub enum Noted {
-    /// It was not noted, or its mark was replaced.
+    /// It was not noted, or its fingerprint was replaced.
     New,
     /// It was noted before.
     Again,
@@ -76,7 +76,7 @@ pub enum Noted {
 pub struct TextMemo {
     pairs: Vec<Pair>,
     bytes: Vec<u8>,
-    /// A mark is even if its key was noted once, and odd if its key's text is too long.
+    /// A fingerprint is even if its key was noted once, and odd if its key's text is too long.
     fingerprints: Vec<u32>,
 }
 
@@ -114,7 +114,7 @@ fn pair_place(hash: u64) -> usize
     ((hash / 4_294_967_296) % 8192) as usize
 }
 
-/// Returns the index of a key's mark.
+/// Returns the index of a key's fingerprint.
 #[inline(always)]
 fn fingerprint_place(hash: u64) -> usize
     ensures { result < FINGERPRINTS }
@@ -122,7 +122,7 @@ fn fingerprint_place(hash: u64) -> usize
     ((hash / 1_099_511_627_776) % 8192) as usize
 }
 
-/// Returns a key's mark, which is even.
+/// Returns a key's fingerprint, which is even.
 #[inline(always)]
 fn fingerprint_of(hash: u64) -> u32 {
     (hash % 4_294_967_296) as u32 & 0xFFFF_FFFE
@@ -157,7 +157,7 @@ impl TextMemo {
         if end > bytes.len() {
             return None;
         }
-        // Two keys may have the same mark and length.
+        // Two keys may have the same fingerprint and length.
         if &bytes[start..middle] == key {
             Some(&bytes[middle..end])
         } else {
@@ -206,7 +206,8 @@ impl TextMemo {
                 Noted::TooLong
             };
         }
-        // The mark of a long text stays, so a caller prints it in vain at most once for each slot.
+        // The fingerprint of a long text stays. So a caller prints such a text in vain at most once
+        // for each slot.
         if noted & 1 == 0 {
             self.fingerprints[place] = fingerprint_of(hash);
         }
@@ -252,7 +253,8 @@ impl TextMemo {
         self.bytes.extend_from_slice(key).is_ok() && self.bytes.extend_from_slice(text).is_ok()
     }
 
-    /// Makes an entry the newer one of a pair, and removes the older one.
+    /// Adds an entry to a pair as the newer one. The one that was newer becomes the older one, and
+    /// the one that was older is removed.
     fn put(&mut self, entry: Entry, place: usize)
         ensures { (text_for : List ℕ → List ℕ) → Remembers text_for self.old →
             Holds text_for self.old.bytes.items entry → Remembers text_for self.new }

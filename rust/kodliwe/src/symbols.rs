@@ -7,8 +7,8 @@ use core::fmt;
 ///
 /// [`Display`](fmt::Display) and [`Debug`](fmt::Debug) print the path that the symbol names. The
 /// alternate form (`{:#}`) leaves out the hash of a legacy symbol, and of a v0 symbol the
-/// disambiguators of crates and the types of numbers. A text that is not a symbol is printed as it
-/// is. Width, precision and other flags have no effect.
+/// disambiguators of crates and the types of numbers. A text that is not a symbol is printed
+/// unchanged. Width, precision and other flags have no effect.
 ///
 /// A path is cut at 1,000,000 bytes: `{size limit reached}` and the symbol's suffix follow.
 ///
@@ -20,7 +20,7 @@ use core::fmt;
 pub struct Demangle<'a>(rustc_demangle::Demangle<'a>);
 
 impl<'a> Demangle<'a> {
-    /// Returns the text that was given, without an ending that ThinLTO added.
+    /// Returns the original text, without a suffix that ThinLTO added.
     ///
     /// ```
     /// let symbol = kodliwe::demangle("_ZN3foo3barE.llvm.9D1C9369");
@@ -34,7 +34,7 @@ impl<'a> Demangle<'a> {
     ///
     /// # Errors
     ///
-    /// Fails if the sink refuses a piece. The sink is handed nothing after that.
+    /// Fails if the sink rejects a piece. The sink gets no piece after that.
     ///
     /// ```
     /// let mut path = kodliwe::ArraySink::<32>::new();
@@ -52,12 +52,12 @@ impl<'a> Demangle<'a> {
 
     /// Writes the path to a sink as [`write_to`](Demangle::write_to) does, cut at `limit` bytes.
     ///
-    /// The first piece that would go past the limit ends the path. `{size limit reached}` and the
+    /// The path ends before the first piece that exceeds the limit. `{size limit reached}` and the
     /// symbol's suffix then follow. A text that is not a symbol has no limit.
     ///
     /// # Errors
     ///
-    /// Fails if the sink refuses a piece.
+    /// Fails if the sink rejects a piece.
     ///
     /// ```
     /// let mut path = kodliwe::ArraySink::<32>::new();
@@ -82,7 +82,7 @@ impl<'a> Demangle<'a> {
     ///
     /// # Errors
     ///
-    /// Fails if the sink refuses a piece.
+    /// Fails if the sink rejects a piece.
     ///
     /// ```
     /// let mut path = kodliwe::ArraySink::<32>::new();
@@ -124,9 +124,9 @@ impl fmt::Display for TryDemangleError {
 
 impl core::error::Error for TryDemangleError {}
 
-/// Reads a text as a Rust symbol. A text that is not one is kept as it is.
+/// Reads a text as a Rust symbol. A text that is not a symbol prints unchanged.
 ///
-/// An ending that ThinLTO added is taken off first, also of a text that is not a symbol.
+/// First removes a suffix that ThinLTO added, even from a text that is not a symbol.
 ///
 /// ```
 /// use kodliwe::demangle;
@@ -161,12 +161,12 @@ pub fn try_demangle(symbol: &str) -> Result<Demangle<'_>, TryDemangleError> {
 
 /// Writes a text to a sink, with each Rust symbol in it demangled.
 ///
-/// A symbol begins with `_ZN` or `_R`, and goes on as far as there are ASCII letters and digits,
-/// `_`, `.` and `$`. All other text is written as it is.
+/// A symbol begins with `_ZN` or `_R`, and continues with all ASCII letters, digits, `_`, `.` and
+/// `$` that follow. All other text is written unchanged.
 ///
 /// # Errors
 ///
-/// Fails if the sink refuses a piece.
+/// Fails if the sink rejects a piece.
 ///
 /// ```
 /// let mut text = kodliwe::ArraySink::<32>::new();
@@ -186,7 +186,7 @@ pub fn demangle_text<S: TextSink>(
 ///
 /// # Errors
 ///
-/// Fails if the sink refuses a piece.
+/// Fails if the sink rejects a piece.
 pub fn demangle_text_limited<S: TextSink>(
     text: &str,
     out: &mut S,
@@ -200,7 +200,7 @@ pub fn demangle_text_limited<S: TextSink>(
 ///
 /// # Errors
 ///
-/// Fails if the sink refuses a piece.
+/// Fails if the sink rejects a piece.
 ///
 /// ```
 /// let format = kodliwe::Format {
@@ -221,11 +221,11 @@ pub fn demangle_text_formatted<S: TextSink>(
     rustc_demangle::demangle_text_formatted(text, out, format)
 }
 
-/// Writes bytes to `out` with each Rust symbol in them demangled, as far as there is room, and
-/// returns how many bytes the whole text has.
+/// Writes bytes to `out` with each Rust symbol in them demangled, as far as there is room. Returns
+/// the number of bytes of the complete text.
 ///
-/// The bytes may be any. Symbols are found as by [`demangle_text`], and each path is cut at `limit`
-/// bytes. It returns `None` if the count would go past `usize::MAX`.
+/// The bytes need not be UTF-8. Symbols are found as by [`demangle_text`], and each path is cut at
+/// `limit` bytes. Returns `None` if the number exceeds `usize::MAX`.
 ///
 /// ```
 /// let mut out = [0; 8];

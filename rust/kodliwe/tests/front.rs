@@ -1,4 +1,4 @@
-//! The front of the crate, as a user sees it.
+//! Tests of the crate's public interface.
 use kodliwe::{
     ArraySink, Demangle, Format, MAX_SIZE, SinkRefused, SliceSink, TextSink, TryDemangleError,
     demangle, demangle_slice, demangle_slice_formatted, demangle_text, demangle_text_formatted,
@@ -119,7 +119,7 @@ mod streams {
 
     const TEXT: &[u8] = b"at _ZN3foo3barE:7\n";
 
-    /// A writer that takes nothing.
+    /// A writer that accepts nothing.
     struct Closed;
 
     impl Write for Closed {

@@ -1,4 +1,4 @@
-//! The parts of `support` that take the place of proved code.
+//! Tests of the parts of `support` that replace proved code.
 use kodliwe::support::arrayvec::{ArrayString, ArrayVec};
 use kodliwe::support::itoa::Buffer;
 use kodliwe::support::memchr::{memchr, memrchr};
@@ -6,7 +6,7 @@ use kodliwe::support::unicode::properties::{GeneralCategory, is_grapheme_extend}
 
 #[test]
 fn memchr_finds_the_first_of_any_places() {
-    // Up to three groups of 32 bytes and what is left of a fourth.
+    // Up to three groups of 32 bytes and a part of a fourth.
     for len in 0..100 {
         assert_eq!(memchr(b'_', &vec![b'a'; len]), None, "{len}");
         for first in 0..len {

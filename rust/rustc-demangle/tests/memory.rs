@@ -1,10 +1,10 @@
-//! Nothing that is asked or printed takes memory: this file is compiled with the published crate too.
+//! No call and no printing allocates. This file is compiled with the published crate too.
 use rustc_demangle::{demangle, try_demangle};
 use std::alloc::{GlobalAlloc, Layout, System};
 use std::cell::Cell;
 use std::fmt::{self, Write};
 
-/// The system's memory, with a count of what each thread took.
+/// The system's allocator, which counts the allocations of each thread.
 struct Counted;
 
 thread_local! {
@@ -15,12 +15,12 @@ thread_local! {
 unsafe impl GlobalAlloc for Counted {
     unsafe fn alloc(&self, layout: Layout) -> *mut u8 {
         TAKEN.with(|taken| taken.set(taken.get() + 1));
-        // SAFETY: the caller keeps what the call asks for.
+        // SAFETY: the caller meets the requirements of the call.
         unsafe { System.alloc(layout) }
     }
 
     unsafe fn dealloc(&self, place: *mut u8, layout: Layout) {
-        // SAFETY: the caller keeps what the call asks for.
+        // SAFETY: the caller meets the requirements of the call.
         unsafe { System.dealloc(place, layout) }
     }
 }
@@ -32,7 +32,7 @@ fn taken() -> usize {
     TAKEN.with(Cell::get)
 }
 
-/// A writer that counts bytes and keeps none.
+/// A writer that counts bytes and stores none.
 struct Length(usize);
 
 impl Write for Length {

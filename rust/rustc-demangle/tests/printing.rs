@@ -1,4 +1,4 @@
-//! What is printed, as the published crate prints it: this file is compiled with either.
+//! The printed texts, which are those of the published crate. This file is compiled with either.
 use rustc_demangle::{demangle, try_demangle};
 use std::fmt::{self, Write};
 
@@ -34,7 +34,7 @@ const PATHS: [(&str, &str, &str); 12] = [
     ("_RNvC3foo3bar.llvm.0AB@1", "foo::bar", "foo::bar"),
 ];
 
-/// Texts that are no symbols, and how they are printed.
+/// Texts that are not symbols, and their printed form.
 const OTHERS: [(&str, &str); 6] = [
     ("", ""),
     ("main", "main"),
@@ -44,12 +44,12 @@ const OTHERS: [(&str, &str); 6] = [
     ("größe.llvm.x", "größe.llvm.x"),
 ];
 
-/// The path of so many tuples in one another, each of which holds its first element twice.
+/// The path of `depth` nested tuples, each of which has its first element twice.
 fn tuples(depth: usize) -> String {
     (0..depth).fold("_".into(), |inner, _| format!("({inner}, {inner})"))
 }
 
-/// The symbol with this path: each second element is a back reference.
+/// The symbol of this path, in which each second element is a back reference.
 fn symbol_of_tuples(depth: usize) -> String {
     let digits: Vec<char> = ('0'..='9').chain('a'..='z').collect();
     let references: String = (3..depth + 3)
@@ -59,7 +59,7 @@ fn symbol_of_tuples(depth: usize) -> String {
     format!("_RMC0{}p{references}", "T".repeat(depth))
 }
 
-/// A writer that counts its texts, and refuses those that would go past its room.
+/// A writer that counts its texts, and rejects those that exceed its room.
 struct Narrow {
     text: String,
     room: usize,
@@ -165,7 +165,7 @@ fn a_path_past_the_limit_is_cut_before_its_suffix() {
     let kept = printed
         .strip_suffix("{size limit reached}.cold.1")
         .expect("the end");
-    // The next piece, `, `, would go past it.
+    // The next piece, `, `, would exceed it.
     assert_eq!(kept.len(), 999_999);
     assert!(kept == &format!("<{}>", tuples(18))[..999_999]);
 }

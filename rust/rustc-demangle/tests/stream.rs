@@ -1,4 +1,4 @@
-//! Whole texts, as the published crate copies them: this file is compiled with either.
+//! Filtered texts, which are those of the published crate. This file is compiled with either.
 #![cfg(feature = "std")]
 use rustc_demangle::demangle_stream;
 use std::io::{self, ErrorKind, Read, Write};
@@ -9,7 +9,7 @@ fn streamed(text: &str, include_hash: bool) -> String {
     String::from_utf8(output).expect("text")
 }
 
-/// A writer that takes so many writes.
+/// A writer that accepts a given number of writes.
 struct Takes(usize, Vec<u8>);
 
 impl Write for Takes {
@@ -24,7 +24,7 @@ impl Write for Takes {
     }
 }
 
-/// A reader that fails behind its text.
+/// A reader that fails after its text.
 struct Fails<'t>(&'t [u8]);
 
 impl Read for Fails<'_> {

@@ -7,7 +7,7 @@ use Rattle.demangle_v0_grammar.specs.V0.{v0_inner}
 use Rattle.demangle_v0_grammar.proofs.V0Reading.{inner_prefix, v0_no_prefix, v0_not_ascii}
 use Rattle.demangle_v0.proofs.ascii_inner_of.Goals as goal
 
--- what stands behind the prefix of an ASCII text is ASCII
+-- the text after the prefix of an ASCII text is ASCII
 inner_ascii : (s x : List ℕ) → v0_inner s ≡ Some x → IsAscii s → IsAscii x
 inner_ascii s x e h =
     let p = inner_prefix s x e in

@@ -89,8 +89,8 @@ impl<const N: usize> Parser<'_, N> {
         }
     }
 
-    /// Reads the impl path or the folded arguments at which the parser is, and continues after them.
-    /// Returns what is left to print if the stack is full before they end.
+    /// Reads the impl path or the folded arguments at which the parser is, and continues after
+    /// them. Returns what is left to print if the stack is full before they end.
     #[inline(always)]
     pub(crate) fn skip_impl_path(&mut self) -> Option<Unfinished>
         requires skipped { is_skipped self.old.source.fold_arguments self.old.continuation ≡ true }

@@ -87,7 +87,8 @@ impl<const N: usize> Parser<'_, N> {
         match kind {
             TypeKind::SharedReference => Ok(self.reference_type(false)),
             TypeKind::MutReference => Ok(self.reference_type(true)),
-            // A copy, so that the other results need not be at the address to which the call writes.
+            // A copy, so that the other results need not be at the address to which the call
+            // writes.
             TypeKind::Constructed(kind) => Ok(self.constructed_type(kind, output)?),
         }
     }

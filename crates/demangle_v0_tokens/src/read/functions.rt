@@ -10,8 +10,8 @@ use crate::token::{Abi, Token};
 use demangle_symbol::cursor::{Ident, Looks};
 
 impl TokenReader<'_> {
-    /// Returns the qualifiers of a function type whose ABI has this name. The name is invalid if its
-    /// ASCII part is empty or its Punycode part is not.
+    /// Returns the qualifiers of a function type whose ABI has this name. The name is invalid if
+    /// its ASCII part is empty or its Punycode part is not.
     fn abi_named(&self, is_unsafe: bool, ident: Ident, next: usize) -> TokenOutcome
         requires { IsIdentWithin self.now.symbol.now ident }
         ensures value { result ≡ (abi_named is_unsafe ident self.now.symbol.now next).reads }

@@ -29,7 +29,8 @@ impl Source<'_> {
         out.put("-")
     }
 
-    /// Prints the name of an ABI, with `-` in place of each `_`. Each part of the name is one piece.
+    /// Prints the name of an ABI, with `-` in place of each `_`. Each part of the name is one
+    /// piece.
     #[tactic(auto, using(demangle_sink::proofs::PrintsLemmas::prints_ready, demangle_sink::proofs::PrintsLemmas::prints_nothing, demangle_sink::proofs::Printed::printed_ready))]
     fn put_abi_name<S: TextSink>(
         &self,

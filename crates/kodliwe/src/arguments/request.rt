@@ -91,8 +91,8 @@ impl<'a> Request<'a> {
         Ok(())
     }
 
-    /// Applies the value of an option; `argument` is the option's argument. Fails if the value is not
-    /// valid, if the output was set before, or if memory can't be allocated.
+    /// Applies the value of an option; `argument` is the option's argument. Fails if the value is
+    /// not valid, if the output was set before, or if memory can't be allocated.
     pub(super) fn set_value(
         &mut self,
         option: ValuedOption,

@@ -7,7 +7,7 @@ use std::alloc::Global;
 use std::process::Abort;
 use std::test::Fail;
 
-/// Beginnings of such inputs, and the notes on them.
+/// The first bytes of such inputs, and the notes on them.
 const WITH_MAGIC_NUMBER: [(&[u8], &[u8]); 5] = [
     (
         b"\x1F\x8B\x08\0 _ZN1aE",
@@ -31,7 +31,7 @@ const WITH_MAGIC_NUMBER: [(&[u8], &[u8]); 5] = [
     ),
 ];
 
-/// The number of bytes of the shortest beginnings that are noted.
+/// The number of bytes of the shortest prefix that is noted.
 const LENGTHS: [usize; 5] = [2, 4, 6, 2, 2];
 
 /// Asserts what is noted about the text of a reader, of which all that is no symbol is copied.

@@ -10,7 +10,8 @@ ghost use Rattle.rustc_demangle.specs.Symbols.{handed};
 use crate::stream::{StreamFault, demangle_stream_named};
 use std::alloc::Global;
 
-/// The lines of a text are its only division into parts of their form.
+/// A text is divided in only one way into parts that are not empty and have their line feeds
+/// exactly at their ends. The last part may lack one. These parts are the lines of the text.
 #[tactic(auto, using(crate::proofs::LineLaws::only_lines))]
 pub fn lines_are_the_only_division()
     ensures { (text : List ℕ) → OnlyLines text }

@@ -1,10 +1,10 @@
 //! Laws about the bytes that are v0 symbols, and where they end.
-ghost use Rattle.std.specs.Prelude.{◌≡◌, ◌↔◌, ◌⊎◌, ℕ, ◌≤◌, Bool, true, false, List, length, Some, None};
+ghost use Rattle.std.specs.Prelude.{◌≡◌, ◌↔◌, ◌⊎◌, ℕ, ◌≤◌, Bool, true, false, if◌then◌else◌, List, length, Some, None};
 ghost use Rattle.demangle_v0_grammar.specs.Items.{Items, Kind};
 ghost use Rattle.demangle_v0_grammar.specs.Table.{items};
 ghost use Rattle.demangle_v0_grammar.specs.Reading.{HasNoError, max_depth, read_at, suffix_place};
 ghost use Rattle.demangle_v0_grammar.specs.V0.{IsV0, v0_of};
-ghost use Rattle.demangle_v0_grammar.specs.Spelling.{Rule, freely, named, simple, Spells, IsPaths};
+ghost use Rattle.demangle_v0_grammar.specs.Spelling.{Rule, freely, named, named_outside, simple, Spells, IsPaths};
 
 /// A production of a v0 symbol has at most one end for each start.
 #[tactic(auto, using(demangle_v0_grammar::proofs::Unique::unique, demangle_v0_grammar::proofs::ParsedIffSpelled::one_suffix))]
@@ -27,22 +27,26 @@ pub fn reading_accepts_what_is_spelled()
         (v0_of symbol ≡ Some (inner, suffix)) ↔ IsV0 symbol inner suffix }
 {}
 
-/// Parsing with output, without folded arguments, ends at the same place as parsing without output,
-/// or fails. It fails only at a lifetime outside back references that names none in scope.
-#[tactic(auto, using(demangle_v0_grammar::proofs::ParsedIffSpelled::printing_is_spelling, demangle_v0_grammar::proofs::ParsedIffSpelled::printing_ends, demangle_v0_grammar::proofs::Rules::named_freely))]
+/// Parsing with output ends at the same place as parsing without output, or fails. It fails only at
+/// a lifetime outside back references that names none in scope. If arguments are folded, it fails
+/// only at such a lifetime outside generic arguments.
+#[tactic(auto, using(demangle_v0_grammar::proofs::ParsedIffSpelled::printing_is_spelling, demangle_v0_grammar::proofs::ParsedIffSpelled::printing_ends, demangle_v0_grammar::proofs::Rules::spelled_freely))]
 pub fn printing_ends_where_reading_does()
-    ensures named { (symbol : List ℕ) (kind : Kind) (value : Bool) (i j depth lifetimes : ℕ) →
-        depth ≤ max_depth → i ≤ length symbol →
-        ((read_at symbol false true kind i depth lifetimes value).place ≡ Some j)
-        ↔ Spells symbol named depth lifetimes (items kind value) i j }
-    ensures freely { (symbol : List ℕ) (depth lifetimes : ℕ) (p : Items) (i j : ℕ) →
-        Spells symbol named depth lifetimes p i j → Spells symbol freely depth lifetimes p i j }
-    ensures fails { (symbol : List ℕ) (kind : Kind) (value : Bool) (i j depth lifetimes : ℕ) →
-        depth ≤ max_depth → i ≤ length symbol →
+    ensures named { (symbol : List ℕ) (folds : Bool) (kind : Kind) (value : Bool)
+        (i j depth lifetimes : ℕ) → depth ≤ max_depth → i ≤ length symbol →
+        ((read_at symbol folds true kind i depth lifetimes value).place ≡ Some j)
+        ↔ Spells symbol (if folds then named_outside else named) depth lifetimes
+        (items kind value) i j }
+    ensures freely { (symbol : List ℕ) (folds : Bool) (depth lifetimes : ℕ) (p : Items)
+        (i j : ℕ) → Spells symbol (if folds then named_outside else named) depth lifetimes p i j →
+        Spells symbol freely depth lifetimes p i j }
+    ensures fails { (symbol : List ℕ) (folds : Bool) (kind : Kind) (value : Bool)
+        (i j depth lifetimes : ℕ) → depth ≤ max_depth → i ≤ length symbol →
         Spells symbol freely depth lifetimes (items kind value) i j →
-        ((read_at symbol false true kind i depth lifetimes value).place ≡ Some j)
-        ⊎ (((read_at symbol false true kind i depth lifetimes value).place ≡ None)
-        × (Spells symbol named depth lifetimes (items kind value) i j → ⊥)) }
+        ((read_at symbol folds true kind i depth lifetimes value).place ≡ Some j)
+        ⊎ (((read_at symbol folds true kind i depth lifetimes value).place ≡ None)
+        × (Spells symbol (if folds then named_outside else named) depth lifetimes
+        (items kind value) i j → ⊥)) }
 {}
 
 /// A production without a back reference, and with no lifetime except that of index 0, is printed

@@ -1,4 +1,4 @@
-//! A sink that appends to held bytes.
+//! A sink that appends to a `PieceBuffer`.
 ghost use Rattle.std.specs.Prelude.{◌≡◌, ◌-◌, [], ◌++◌, length, Some, true, false, refl};
 ghost use Rattle.std.proofs.Common.{sym, ap, ◌∙◌};
 ghost use Rattle.std.proofs.lemmas.List.{append-nil, append_assoc};
@@ -7,7 +7,7 @@ ghost use Rattle.piece_buffer.specs.declared.TheConstants.{CAPACITY};
 use demangle_sink::{SinkRefused, TextSink};
 use piece_buffer::PieceBuffer;
 
-/// A sink that appends each piece to held bytes. It fails if they have no room for a piece.
+/// A sink that appends each piece to a buffer. It fails if the buffer has no room for a piece.
 #[derive(Drop)]
 pub(super) struct BufferSink<'h> {
     held: &'h mut PieceBuffer,
@@ -15,7 +15,7 @@ pub(super) struct BufferSink<'h> {
 }
 
 impl<'h> BufferSink<'h> {
-    /// Returns a sink that appends to these bytes. It has not failed.
+    /// Returns a sink that appends to this buffer. It has not failed.
     pub(super) fn new(held: &'h mut PieceBuffer) -> Self
         ensures same_bytes { result.held.ghost_name ≡ held.entry.ghost_name }
         ensures bytes { result.held.now ≡ held.old }

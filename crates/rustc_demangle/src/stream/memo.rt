@@ -95,7 +95,7 @@ impl Model for SymbolMemo {
     ghost invariant = { λ memo. Remembers (replacement_in memo.format) memo.store.texts };
 }
 
-/// Prints a symbol into held bytes, or returns `false` if they have no room for it.
+/// Prints a symbol into an empty buffer, or returns `false` if the buffer has no room for it.
 fn print_to_buffer(symbol: &Demangle<'_>, held: &mut PieceBuffer, format: Format) -> bool
     requires { held.old ≡ [] }
     ensures { IsTrue result → held.new ≡ concat (handed_in symbol.now format) }
@@ -104,27 +104,27 @@ fn print_to_buffer(symbol: &Demangle<'_>, held: &mut PieceBuffer, format: Format
     symbol.write_formatted(&mut sink, format).is_ok()
 }
 
-/// Prints a v0 symbol into held bytes before it is known whether the run is one. Returns `false` if
-/// that is still unknown, or if the bytes have no room for the text. Then the bytes may have a part
-/// of it.
+/// Prints a v0 symbol into the buffer before it is known whether the run is one. Returns `false` if
+/// that is still unknown, or if the buffer has no room for the text. Then the buffer may have a
+/// part of it.
 #[inline(always)]
 fn print_first(run: &str, held: &mut PieceBuffer, format: Format) -> bool
     requires run { list_all is_run_byte run.now ≡ true }
     requires some { 1 < length run.now }
     ensures { IsTrue result → held.new ≡ replacement_in format run.now }
 {
-    if format.fold_arguments || run.as_bytes()[1] != b'R' {
+    if run.as_bytes()[1] != b'R' {
         return false;
     }
     held.clear();
     let mut sink = BufferSink::new(held);
-    print_v0_run(run, &mut sink, format.include_hash, format.limit)
+    print_v0_run(run, &mut sink, format)
 }
 
 /// How the text of a run was found.
 #[derive(Clone, Copy)]
 enum Printed {
-    /// The run is a symbol, and its text is held.
+    /// The run is a symbol, and its text is in the buffer.
     Symbol,
     /// The run is not a symbol, and its text is the run.
     NoSymbol,

@@ -1,9 +1,9 @@
 //! Prints symbols into sinks, cut at a limit.
-ghost use Rattle.std.specs.Prelude.{◌≡◌, ◌+◌, ◌≤◌, true, IsTrue};
+ghost use Rattle.std.specs.Prelude.{◌≡◌, ◌+◌, ◌≤◌, true, false, IsTrue};
 ghost use Rattle.std.specs.List.{list_all};
 ghost use Rattle.demangle_sink.specs.Cut.{cut};
 ghost use Rattle.demangle_sink.specs.PutsPieces.{PutsPieces};
-ghost use Rattle.rustc_demangle.specs.Filtered.{is_run_byte, replacement_within};
+ghost use Rattle.rustc_demangle.specs.Filtered.{is_run_byte, replacement_in};
 ghost use Rattle.rustc_demangle.specs.PathEnds.{handed_with_path_len};
 ghost use Rattle.rustc_demangle.specs.Stripped.{stripped};
 ghost use Rattle.rustc_demangle.specs.Style.{style_pieces, style_looks, style_least};
@@ -207,25 +207,24 @@ impl Demangle<'_> {
 /// Returns `false` if the run is not a v0 symbol, as `demangle_v0::demangle_printed` does. Then an
 /// unknown part of the symbol may be in the sink, and `Demangle::read_run` says what the run is.
 #[inline(never)]
-pub(crate) fn print_v0_run<S: TextSink>(
-    run: &str,
-    out: &mut S,
-    include_hash: bool,
-    limit: usize,
-) -> bool
+pub(crate) fn print_v0_run<S: TextSink>(run: &str, out: &mut S, format: Format) -> bool
     requires run { list_all is_run_byte run.now ≡ true }
     requires not_failed { S.failed out.old ≡ false }
     ensures { IsTrue result →
-        S.took out.old (replacement_within include_hash limit run.now) out.new }
+        S.took out.old (replacement_in format run.now) out.new }
 {
     let text = without_thin_lto(run);
-    let mut looks = Looks::new();
-    let mut limited = SizeLimitedFmtAdapter::new(out, limit);
-    let read = demangle_v0::demangle_printed(text, &mut limited, include_hash, &mut looks);
+    let mut limited = SizeLimitedFmtAdapter::new(out, format.limit);
+    let read = demangle_v0::demangle_printed(
+        text,
+        &mut limited,
+        format.include_hash,
+        format.fold_arguments,
+    );
     let Some((_, suffix)) = read else {
         return false;
     };
-    is_allowed(suffix, &mut looks) && put_piece(suffix, out).is_ok()
+    is_allowed(suffix, &mut Looks::new()) && put_piece(suffix, out).is_ok()
 }
 
 /// Prints a text into a sink; its path has `path_len` bytes. Fails if the sink fails.

@@ -74,7 +74,8 @@ fn escaped_char(symbol: &Symbol<'_>, digits: Part, looks: &mut Looks) -> Option<
     escaped_code(code)
 }
 
-/// Returns the character for two letters between `$`, if they are an escape.
+/// Returns the character for two letters between `$`, or `None` if they are not an escape. The
+/// first must not be `u`, which starts an escape by digits.
 fn letters(first: u8, second: u8) -> Option<char> {
     match (first, second) {
         (b'S', b'P') => Some('@'),

@@ -6,6 +6,7 @@ use crate::demangle_sink::{SinkRefused, TextSink};
 /// Passes pieces to a sink while their total size is within a limit.
 pub struct SizeLimitedFmtAdapter<'s, S: TextSink> {
     out: &'s mut S,
+    /// How many more bytes may be passed to the sink.
     remaining: usize,
     /// Whether a piece exceeded the limit.
     is_limit_reached: bool,

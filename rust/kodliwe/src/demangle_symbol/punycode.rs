@@ -118,6 +118,8 @@ fn decode(
         return None;
     };
     let end = name.punycode.to;
+    // The initial values of RFC 3492. `n` is the last code point that was inserted, and `i` the
+    // index after it.
     let mut bias: u64 = 72;
     let mut first = true;
     let mut n: u64 = 0x80;

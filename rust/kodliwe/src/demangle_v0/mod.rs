@@ -81,10 +81,10 @@ pub fn demangle<'s>(
 /// Reads a v0 symbol and prints its first path, in one pass over the path. Returns the symbol and
 /// the suffix after its paths. The text must be ASCII.
 ///
-/// Returns `None` if the text is not a v0 symbol. Also returns `None` if a lifetime or a reference of
-/// the path has an error, if the limit or the sink rejects a piece, or if the path is nested deeply.
-/// Then an unknown part of the path may be printed, and `demangle` says whether the text is a
-/// symbol.
+/// Returns `None` if the text is not a v0 symbol. Also returns `None` if a lifetime or a reference
+/// of the path has an error, if the limit or the sink rejects a piece, or if the path is nested
+/// deeply. Then an unknown part of the path may be printed, and `demangle` says whether the text is
+/// a symbol.
 pub fn demangle_printed<'s, S: TextSink>(
     s: &'s str,
     out: &mut SizeLimitedFmtAdapter<'_, S>,

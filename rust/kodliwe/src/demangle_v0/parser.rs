@@ -1,9 +1,9 @@
 // Made from crates/demangle_v0/src/parser.rt by packaging/crate/erase.py: edit that file instead.
 //! The v0 parser as a state machine.
 //!
-//! The parser does not recurse. Each `Continuation`, a continuation, names a position in a production of
-//! the grammar. Its method reads up to the next nested production, pushes a frame for what follows
-//! that production, and returns the continuation to run next.
+//! The parser does not recurse. Each `Continuation` names a position in a production of the
+//! grammar. Its method reads up to the next nested production, pushes a frame for what follows that
+//! production, and returns the continuation to run next.
 
 use crate::demangle_v0::parser::frames::Frame;
 use crate::demangle_v0_tokens::fixed_texts::FixedText;

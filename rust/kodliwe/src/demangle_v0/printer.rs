@@ -19,7 +19,8 @@ pub enum Unfinished {
 }
 
 impl<const N: usize> Parser<'_, N> {
-    /// Prints until nothing is left or the stack is full.
+    /// Prints until nothing is left or the stack is full. Returns what is left if the stack is
+    /// full.
     ///
     /// Fails at the first piece that the limit or the sink rejects.
     #[inline(never)]
@@ -50,7 +51,8 @@ impl<const N: usize> Parser<'_, N> {
         Ok(Some(Unfinished::Printing))
     }
 
-    /// Prints what is left until nothing is left or the stack is full.
+    /// Finishes a part that is not printed, if the parser is in one, and then prints as
+    /// `print_steps` does. Returns what is left if the stack is full.
     ///
     /// Fails at the first piece that the limit or the sink rejects.
     fn print_unfinished<S: TextSink>(
@@ -66,7 +68,7 @@ impl<const N: usize> Parser<'_, N> {
 }
 
 impl Parser<'_, MIDDLE_STACK> {
-    /// Prints what is left in a stack with room for every frame.
+    /// Prints all that is left in the largest stack, which has room for every frame.
     ///
     /// Fails at the first piece that the limit or the sink rejects.
     #[inline(never)]
@@ -83,7 +85,7 @@ impl Parser<'_, MIDDLE_STACK> {
         Ok(())
     }
 
-    /// Prints what is left, in the largest stack if this one is full.
+    /// Prints all that is left. If this stack becomes full, the largest one takes over.
     ///
     /// Fails at the first piece that the limit or the sink rejects.
     #[inline(always)]
@@ -100,7 +102,7 @@ impl Parser<'_, MIDDLE_STACK> {
 }
 
 impl Parser<'_, SHORT_STACK> {
-    /// Prints what is left in a larger stack, and if that is full too, in the largest.
+    /// Prints all that is left in a larger stack. If that becomes full, the largest one takes over.
     ///
     /// Fails at the first piece that the limit or the sink rejects.
     #[inline(never)]

@@ -47,23 +47,23 @@ impl TextSink for CountingSink {
 }
 
 /// An output that prints into a counting sink, and counts the tokens that are not empty.
-struct CountingVoice<'s> {
+struct CountingOutput<'s> {
     out: SizeLimitedFmtAdapter<'s, CountingSink>,
     costs_of: usize,
     last: Token,
 }
 
-impl<'s> CountingVoice<'s> {
+impl<'s> CountingOutput<'s> {
     /// Counts a token.
-    fn count(&mut self, stretch: &Token) {
-        if !matches!(stretch, Token::Nothing) {
+    fn count(&mut self, token: &Token) {
+        if !matches!(token, Token::Nothing) {
             self.costs_of = self.costs_of.saturating_add(1);
-            self.last = *stretch;
+            self.last = *token;
         }
     }
 }
 
-impl<'s> Output for CountingVoice<'s> {
+impl<'s> Output for CountingOutput<'s> {
     fn is_printing(&self) -> bool {
         true
     }
@@ -71,21 +71,21 @@ impl<'s> Output for CountingVoice<'s> {
     fn emit(
         &mut self,
         source: &Source<'_>,
-        stretch: &Token,
+        token: &Token,
         looks: &mut Looks,
     ) -> Result<(), SinkRefused> {
-        self.count(stretch);
-        self.out.emit(source, stretch, looks)
+        self.count(token);
+        self.out.emit(source, token, looks)
     }
 
     fn emit_error(
         &mut self,
         source: &Source<'_>,
-        stretch: &Token,
+        token: &Token,
         looks: &mut Looks,
     ) -> Result<(), SinkRefused> {
-        self.count(stretch);
-        self.out.emit_error(source, stretch, looks)
+        self.count(token);
+        self.out.emit_error(source, token, looks)
     }
 }
 
@@ -146,8 +146,8 @@ fn steps_print(printed: PrintedPrefix<'_>, wanted: &str) -> bool {
     false
 }
 
-/// Does one step, or skips an impl path. Returns whether nothing was left to print, or `None` if the
-/// step printed more than one token or failed.
+/// Does one step, or skips an impl path. Returns whether nothing was left to print, or `None` if
+/// the step printed more than one token or failed.
 fn continues_on(parser: &mut Parser<'_, FULL_STACK>, sink: &mut CountingSink) -> Option<bool> {
     if parser.stack.len() >= FULL_STACK || sink.is_failed() {
         return None;
@@ -163,7 +163,7 @@ fn continues_on(parser: &mut Parser<'_, FULL_STACK>, sink: &mut CountingSink) ->
         };
     }
     let (from, pieces) = (sink.text.as_str().len(), sink.pieces);
-    let mut output = CountingVoice {
+    let mut output = CountingOutput {
         out: SizeLimitedFmtAdapter::new(sink, 1_000_000),
         costs_of: 0,
         last: Token::Nothing,

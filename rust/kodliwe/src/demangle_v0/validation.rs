@@ -77,8 +77,8 @@ impl Parser<'_, SHORT_STACK> {
         let Some(end) = self.path_end(0) else {
             return None;
         };
-        // A second path names the crate in which a generic was instantiated. It is read, so that the
-        // suffix begins after it, and never printed.
+        // A second path names the crate in which a generic was instantiated. It is read, so that
+        // the suffix begins after it, and never printed.
         if begins_path(self.source.symbol, end, &mut self.looks) {
             return self.path_end(end);
         }

@@ -22,7 +22,7 @@ pub trait Output {
     fn emit(
         &mut self,
         source: &Source<'_>,
-        stretch: &Token,
+        token: &Token,
         looks: &mut Looks,
     ) -> Result<(), SinkRefused>;
 
@@ -34,7 +34,7 @@ pub trait Output {
     fn emit_error(
         &mut self,
         source: &Source<'_>,
-        stretch: &Token,
+        token: &Token,
         looks: &mut Looks,
     ) -> Result<(), SinkRefused>;
 }
@@ -79,19 +79,19 @@ impl<'s, S: TextSink> Output for SizeLimitedFmtAdapter<'s, S> {
     fn emit(
         &mut self,
         source: &Source<'_>,
-        stretch: &Token,
+        token: &Token,
         looks: &mut Looks,
     ) -> Result<(), SinkRefused> {
-        source.render(stretch, self, looks)
+        source.render(token, self, looks)
     }
 
     #[inline(always)]
     fn emit_error(
         &mut self,
         source: &Source<'_>,
-        stretch: &Token,
+        token: &Token,
         looks: &mut Looks,
     ) -> Result<(), SinkRefused> {
-        source.render(stretch, self, looks)
+        source.render(token, self, looks)
     }
 }

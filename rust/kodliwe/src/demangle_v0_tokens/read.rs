@@ -82,6 +82,6 @@ fn invalid_token() -> TokenOutcome {
 
 /// Returns the result for a token that is spelled, and ends before `next`.
 #[inline(always)]
-fn token_read(stretch: Token, next: usize) -> TokenOutcome {
-    TokenOutcome::Parsed(stretch, Some(next))
+fn token_read(token: Token, next: usize) -> TokenOutcome {
+    TokenOutcome::Parsed(token, Some(next))
 }

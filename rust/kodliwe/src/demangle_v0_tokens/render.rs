@@ -25,11 +25,11 @@ impl Source<'_> {
     #[inline(always)]
     pub fn render<S: TextSink>(
         &self,
-        stretch: &Token,
+        token: &Token,
         out: &mut SizeLimitedFmtAdapter<'_, S>,
         looks: &mut Looks,
     ) -> Result<(), SinkRefused> {
-        match stretch {
+        match token {
             Token::Nothing => Ok(()),
             Token::Fixed(fixed_text) => out.put(text(*fixed_text)),
             Token::CrateName(name, number) => self.put_crate_name(name, *number, out, looks),

@@ -50,8 +50,8 @@ pub enum ConstructedType {
     Pattern,
 }
 
-/// Returns the kind of the type that begins with a tag. The result is `None` for any other tag, such
-/// as that of a basic type or a path.
+/// Returns the kind of the type that begins with a tag. The result is `None` for any other tag,
+/// such as that of a basic type or a path.
 #[inline(always)]
 pub fn type_kind(tag: u8) -> Option<TypeKind> {
     let constructed = match tag {

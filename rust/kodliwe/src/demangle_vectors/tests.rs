@@ -41,7 +41,7 @@ fn assert_prints(rt: &impl Abort, symbol: &str, plain: &str, alt: &str) {
 }
 
 /// Asserts that a text is not a symbol and prints as this text in both forms.
-fn assert_refused(rt: &impl Abort, text: &str, printed: &str) {
+fn assert_rejected(rt: &impl Abort, text: &str, printed: &str) {
     assert!(try_demangle(text).is_err(), "{text} is no symbol");
     assert!(printed_is(text, true, printed), "{text} with the hash");
     assert!(printed_is(text, false, printed), "{text} without the hash");

@@ -33,6 +33,7 @@ fn copy(piece: &[u8], room: &mut [u8]) {
 /// At most `CAPACITY` bytes, in the order in which they were pushed.
 pub struct PieceBuffer {
     bytes: [u8; CAPACITY],
+    /// The number of bytes that are in use, from the start.
     len: usize,
 }
 

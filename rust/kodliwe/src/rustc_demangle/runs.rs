@@ -47,8 +47,8 @@ fn skip_groups<const N: usize>(text: &[u8], from: usize) -> usize {
 pub fn run_start(text: &[u8]) -> Option<usize> {
     let mut from = 0;
     // A run starts with `_`, and a search for a single byte is fast.
-    while let Some(ahead) = memchr(b'_', &text[from..]) {
-        let at = from + ahead;
+    while let Some(offset) = memchr(b'_', &text[from..]) {
+        let at = from + offset;
         if starts_run(&text[at..]) {
             return Some(at);
         }

@@ -76,7 +76,7 @@ impl Stdin {
     }
 }
 
-/// Whether a stream is a terminal. Rust's own trait takes no types but its own.
+/// Whether a stream is a terminal. Rust's own trait cannot be implemented for other types.
 pub trait IsTerminal {
     fn is_terminal(&self) -> bool;
 }

@@ -1,12 +1,12 @@
 //! The searches for a byte, with the interface of the crate `memchr`.
 
-/// How many bytes are tested at once, by a processor's vectors.
+/// How many bytes are tested at once, with vector instructions.
 const GROUP: usize = 32;
 const LOW: usize = usize::MAX / 255;
 const HIGH: usize = LOW * 128;
 const SIZE: usize = size_of::<usize>();
 
-/// Returns the place of the first such byte.
+/// Returns the offset of the first byte with this value.
 pub fn memchr(needle: u8, text: &[u8]) -> Option<usize> {
     let mut rest = text;
     while let Some((group, after)) = rest.split_first_chunk() {
@@ -15,7 +15,7 @@ pub fn memchr(needle: u8, text: &[u8]) -> Option<usize> {
         }
         rest = after;
     }
-    // What is left is shorter than a group, or begins with one that has the byte.
+    // The rest is shorter than a group, or begins with a group that has the byte.
     if rest.len() < GROUP
         && text
             .last_chunk()
@@ -29,13 +29,13 @@ pub fn memchr(needle: u8, text: &[u8]) -> Option<usize> {
 /// Returns whether the byte is in a group.
 #[inline(always)]
 fn has_byte(needle: u8, group: &[u8; GROUP]) -> bool {
-    // A loop that ends early would not be made of vectors.
+    // The compiler would not vectorize a loop that ends early.
     group
         .iter()
         .fold(false, |found, byte| found | (*byte == needle))
 }
 
-/// Returns the place of the first such byte, by words.
+/// Returns the offset of the first byte with this value, eight bytes at a time.
 #[inline(always)]
 fn find_by_words(needle: u8, text: &[u8]) -> Option<usize> {
     let pattern = LOW * usize::from(needle);
@@ -55,7 +55,7 @@ fn find_by_words(needle: u8, text: &[u8]) -> Option<usize> {
         .map(|after| at + after)
 }
 
-/// Returns the last place of the byte.
+/// Returns the offset of the last byte with this value.
 pub fn memrchr(needle: u8, text: &[u8]) -> Option<usize> {
     let mut rest = text;
     while let Some((before, group)) = rest.split_last_chunk() {
@@ -64,7 +64,7 @@ pub fn memrchr(needle: u8, text: &[u8]) -> Option<usize> {
         }
         rest = before;
     }
-    // What is left is shorter than a group, or ends with one that has the byte.
+    // The rest is shorter than a group, or ends with a group that has the byte.
     if rest.len() < GROUP
         && text
             .first_chunk()
@@ -75,12 +75,12 @@ pub fn memrchr(needle: u8, text: &[u8]) -> Option<usize> {
     find_last_by_words(needle, rest)
 }
 
-/// Returns the last place of the byte, from the end on by words.
+/// Returns the offset of the last byte with this value, eight bytes at a time from the end.
 #[inline(always)]
 fn find_last_by_words(needle: u8, text: &[u8]) -> Option<usize> {
     let pattern = LOW * usize::from(needle);
     let mut end = text.len();
-    // Each byte of the difference but zero sets its own high bit, so the highest zero is exact.
+    // Each byte of the difference except zero sets its own high bit, so the highest zero is exact.
     while let Some(word) = text[..end].last_chunk::<SIZE>() {
         let difference = usize::from_le_bytes(*word) ^ pattern;
         let zeros = !(((difference & !HIGH) + !HIGH) | difference) & HIGH;

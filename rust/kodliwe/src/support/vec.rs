@@ -1,11 +1,11 @@
-//! Vectors that may be refused memory.
+//! Vectors whose allocation may fail.
 use super::alloc::{AllocError, Allocator, Global};
 use std::io;
 use std::marker::PhantomData;
 use std::ops::{Deref, DerefMut};
 use std::vec::IntoIter;
 
-/// Rust's vector, each growth of which is a `Result`.
+/// Rust's `Vec`. Each call that allocates returns a `Result`.
 #[derive(Clone, Debug, PartialEq, Eq)]
 pub struct Vec<T, A: Allocator = Global> {
     items: std::vec::Vec<T>,

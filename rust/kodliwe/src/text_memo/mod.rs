@@ -11,8 +11,8 @@ mod tests;
 /// The number of pairs of entries. The hash of a key chooses its pair.
 const PAIRS: usize = 8192;
 
-/// The number of slots for the marks of keys.
-const MARKS: usize = 8192;
+/// The number of slots for the fingerprints of keys.
+const FINGERPRINTS: usize = 8192;
 
 /// The longest key of an entry.
 pub const MAX_KEY: usize = 2048;
@@ -34,7 +34,7 @@ struct Entry {
     key_len: u16,
     text_len: u16,
     /// A part of the key's hash. Most other keys have another one.
-    mark: u32,
+    fingerprint: u32,
 }
 
 /// The two entries for the keys that share a part of their hash.
@@ -49,7 +49,7 @@ const NO_ENTRY: Entry = Entry {
     start: 0,
     key_len: 0,
     text_len: 0,
-    mark: 0,
+    fingerprint: 0,
 };
 
 /// A pair without entries.
@@ -58,10 +58,10 @@ const NO_PAIR: Pair = Pair {
     older: NO_ENTRY,
 };
 
-/// How a key was noted before. Another key may have the same mark.
+/// How a key was noted before. Another key may have the same fingerprint.
 #[derive(Clone, Copy, Debug, PartialEq, Eq)]
 pub enum Noted {
-    /// It was not noted, or its mark was replaced.
+    /// It was not noted, or its fingerprint was replaced.
     New,
     /// It was noted before.
     Again,
@@ -73,8 +73,8 @@ pub enum Noted {
 pub struct TextMemo {
     pairs: Vec<Pair>,
     bytes: Vec<u8>,
-    /// A mark is even if its key was noted once, and odd if its key's text is too long.
-    marks: Vec<u32>,
+    /// A fingerprint is even if its key was noted once, and odd if its key's text is too long.
+    fingerprints: Vec<u32>,
 }
 
 /// Returns a hash with sixteen bytes mixed in.
@@ -109,15 +109,15 @@ fn pair_place(hash: u64) -> usize {
     ((hash / 4_294_967_296) % 8192) as usize
 }
 
-/// Returns the index of a key's mark.
+/// Returns the index of a key's fingerprint.
 #[inline(always)]
-fn mark_place(hash: u64) -> usize {
+fn fingerprint_place(hash: u64) -> usize {
     ((hash / 1_099_511_627_776) % 8192) as usize
 }
 
-/// Returns a key's mark, which is even.
+/// Returns a key's fingerprint, which is even.
 #[inline(always)]
-fn mark_of(hash: u64) -> u32 {
+fn fingerprint_of(hash: u64) -> u32 {
     (hash % 4_294_967_296) as u32 & 0xFFFF_FFFE
 }
 
@@ -127,14 +127,14 @@ impl TextMemo {
         TextMemo {
             pairs: Vec::new(alloc),
             bytes: Vec::new(alloc),
-            marks: Vec::new(alloc),
+            fingerprints: Vec::new(alloc),
         }
     }
 
     /// Returns the text of an entry, or `None` if the entry has another key.
     #[inline(always)]
-    fn text_at(&self, entry: &Entry, key: &[u8], mark: u32) -> Option<&[u8]> {
-        if entry.mark != mark || entry.key_len as usize != key.len() {
+    fn text_at(&self, entry: &Entry, key: &[u8], fingerprint: u32) -> Option<&[u8]> {
+        if entry.fingerprint != fingerprint || entry.key_len as usize != key.len() {
             return None;
         }
         let start = entry.start as usize;
@@ -144,7 +144,7 @@ impl TextMemo {
         if end > bytes.len() {
             return None;
         }
-        // Two keys may have the same mark and length.
+        // Two keys may have the same fingerprint and length.
         if &bytes[start..middle] == key {
             Some(&bytes[middle..end])
         } else {
@@ -160,10 +160,10 @@ impl TextMemo {
             return None;
         }
         let pair = &self.pairs[place];
-        let mark = mark_of(hash);
-        match self.text_at(&pair.newer, key, mark) {
+        let fingerprint = fingerprint_of(hash);
+        match self.text_at(&pair.newer, key, fingerprint) {
             Some(text) => Some(text),
-            None => self.text_at(&pair.older, key, mark),
+            None => self.text_at(&pair.older, key, fingerprint),
         }
     }
 
@@ -171,33 +171,34 @@ impl TextMemo {
     /// once. `hash` is the key's.
     #[inline(always)]
     pub fn note(&mut self, hash: u64) -> Noted {
-        let place = mark_place(hash);
-        if self.marks.is_empty() && self.marks.resize(MARKS, 0).is_err() {
+        let place = fingerprint_place(hash);
+        if self.fingerprints.is_empty() && self.fingerprints.resize(FINGERPRINTS, 0).is_err() {
             return Noted::New;
         }
-        if place >= self.marks.len() {
+        if place >= self.fingerprints.len() {
             return Noted::New;
         }
-        let noted = self.marks[place];
-        if noted & 0xFFFF_FFFE == mark_of(hash) {
+        let noted = self.fingerprints[place];
+        if noted & 0xFFFF_FFFE == fingerprint_of(hash) {
             return if noted & 1 == 0 {
                 Noted::Again
             } else {
                 Noted::TooLong
             };
         }
-        // The mark of a long text stays, so a caller prints it in vain at most once for each slot.
+        // The fingerprint of a long text stays. So a caller prints such a text in vain at most once
+        // for each slot.
         if noted & 1 == 0 {
-            self.marks[place] = mark_of(hash);
+            self.fingerprints[place] = fingerprint_of(hash);
         }
         Noted::New
     }
 
     /// Notes that a key's text is too long for an entry. `hash` is the key's.
     pub fn note_too_long(&mut self, hash: u64) {
-        let place = mark_place(hash);
-        if place < self.marks.len() {
-            self.marks[place] = mark_of(hash) | 1;
+        let place = fingerprint_place(hash);
+        if place < self.fingerprints.len() {
+            self.fingerprints[place] = fingerprint_of(hash) | 1;
         }
     }
 
@@ -219,7 +220,8 @@ impl TextMemo {
         self.bytes.extend_from_slice(key).is_ok() && self.bytes.extend_from_slice(text).is_ok()
     }
 
-    /// Makes an entry the newer one of a pair, and removes the older one.
+    /// Adds an entry to a pair as the newer one. The one that was newer becomes the older one, and
+    /// the one that was older is removed.
     fn put(&mut self, entry: Entry, place: usize) {
         if place < self.pairs.len() {
             let older = self.pairs[place].newer;
@@ -250,7 +252,7 @@ impl TextMemo {
             start: start as u32,
             key_len: key.len() as u16,
             text_len: text.len() as u16,
-            mark: mark_of(hash),
+            fingerprint: fingerprint_of(hash),
         };
         self.put(entry, pair_place(hash));
     }

@@ -75,10 +75,10 @@ fn a_key_is_noted() -> Result<(), Fail> {
     let mut memo = TextMemo::new(rt.alloc());
     assert_eq!(memo.note(2), Noted::New);
     assert_eq!(memo.note(2), Noted::Again);
-    // Another key with the same index replaces the mark.
+    // Another key with the same index replaces the fingerprint.
     assert_eq!(memo.note(4), Noted::New);
     assert_eq!(memo.note(2), Noted::New);
-    // The mark of a key with a long text stays.
+    // The fingerprint of a key with a long text stays.
     memo.note_too_long(2);
     assert_eq!(memo.note(2), Noted::TooLong);
     assert_eq!(memo.note(4), Noted::New);

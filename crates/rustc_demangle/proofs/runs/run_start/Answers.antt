@@ -5,11 +5,11 @@ use Rattle.rustc_demangle.specs.Filtered.{starts_run}
 use Rattle.rustc_demangle.proofs.Searches.{no_run_up_to, no_run_after, no_run_on}
 use Rattle.rustc_demangle.proofs.runs.run_start.Goals as goal
 
--- what a slice from a place on holds
+-- the contents of a slice from a place on
 rest_is : (text : List ℕ) (from : ℕ) → take (length text - from) (drop from text) ≡ drop from text
 rest_is text from = take_all _ _ (omega (arith, length-drop from text))
 
--- where the next `_` behind a place stands, and none in front of it
+-- the next `_` after a place, and none before it
 found_at : (text : List ℕ) (from offset : ℕ) → offset < length (take (length text - from) (drop from text))
     → Nowhere (Passes (is_byte 95) (take (length text - from) (drop from text))) 0 offset
     → (from + offset < length text) × Nowhere (Passes (is_byte 95) (drop from text)) 0 offset

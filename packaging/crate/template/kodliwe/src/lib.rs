@@ -1,7 +1,7 @@
 //! Demangles Rust symbols of the legacy scheme (`_ZN..E`) and of v0 (`_R..`, [RFC 2603]).
 //!
 //! [`demangle`] returns a [`Demangle`], which prints the path that a symbol names. It prints by
-//! [`Display`](core::fmt::Display), or into a [`TextSink`] of yours.
+//! [`Display`](core::fmt::Display), or into your own [`TextSink`].
 //!
 //! ```
 //! let symbol = kodliwe::demangle("_ZN3foo3bar17h05af221e174051e9E");
@@ -14,8 +14,8 @@
 //! `demangle_stream` and `demangle_bytes` do so from a reader to a writer.
 //!
 //! Reading and printing a symbol allocates nothing, and takes time in proportion to the symbol and
-//! to what it prints. Only streams allocate: they hold one line, or one symbol, and
-//! `demangle_bytes` remembers what symbols print, in at most 4.5 MB.
+//! its printed path. Only streams allocate: they buffer one line, or one symbol, and
+//! `demangle_bytes` remembers the paths of symbols, in at most 4.5 MB.
 //!
 //! # Features
 //!
@@ -24,9 +24,9 @@
 //!
 //! # Where it comes from
 //!
-//! The modules of this crate are the source of Kodliwe, in Rattle, with the contracts erased. Rattle
-//! is Rust with contracts, and a prover shows that each function of that source meets them. Nothing
-//! is proved of this crate itself: it is compiled by rustc, and tested to return the same.
+//! The modules of this crate are the source of Kodliwe, in Rattle, with the contracts erased.
+//! Rattle is Rust with contracts, and a prover shows that each function of that source meets them.
+//! Nothing is proved of this crate itself: it is compiled by rustc, and tested to return the same.
 //!
 //! [RFC 2603]: https://rust-lang.github.io/rfcs/2603-rust-symbol-name-mangling-v0.html
 #![cfg_attr(not(feature = "std"), no_std)]
@@ -57,5 +57,5 @@ pub use symbols::{
     demangle_text_formatted, demangle_text_limited, try_demangle,
 };
 
-/// The most bytes that a call without a limit prints of a symbol, before its suffix.
+/// The default limit: the most bytes that are printed for a symbol, without its suffix.
 pub const MAX_SIZE: usize = 1_000_000;

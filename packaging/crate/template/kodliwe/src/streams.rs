@@ -1,4 +1,4 @@
-//! Texts from a reader to a writer.
+//! Filters what a reader has into a writer.
 use crate::MAX_SIZE;
 use crate::rustc_demangle::{self, Format};
 use crate::support::alloc::Global;
@@ -9,16 +9,15 @@ pub use crate::rustc_demangle::StreamFault;
 
 /// Copies `input` to `output` line by line, with each Rust symbol demangled.
 ///
-/// Symbols are found as by [`demangle_text`](crate::demangle_text). A line is read whole before any
-/// of it is written. There is one write for each symbol and for each text between two, so give a
-/// buffered writer if each write costs much.
+/// Symbols are found as by [`demangle_text`](crate::demangle_text). A line is read completely
+/// before any of it is written. Each symbol and each text between two symbols is one write, so pass
+/// a buffered writer if a write is costly.
 ///
 /// # Errors
 ///
-/// Fails with the error of `input` or `output`, with
-/// [`InvalidData`](io::ErrorKind::InvalidData) if a line is not UTF-8, and with
-/// [`OutOfMemory`](io::ErrorKind::OutOfMemory) if there is no memory for a line. What was written
-/// before stays.
+/// Fails with the error of `input` or `output`, with [`InvalidData`](io::ErrorKind::InvalidData) if
+/// a line is not UTF-8, and with [`OutOfMemory`](io::ErrorKind::OutOfMemory) if there is no memory
+/// for a line. The lines before it are written.
 ///
 /// ```
 /// let mut output = Vec::new();
@@ -34,7 +33,8 @@ pub fn demangle_stream<R: BufRead, W: Write>(
     rustc_demangle::demangle_stream(Global, input, output, include_hash)
 }
 
-/// Copies `input` to `output` as [`demangle_stream`] does, and tells who failed.
+/// Copies `input` to `output` as [`demangle_stream`] does. The error says which of the two failed,
+/// or that there is no memory.
 ///
 /// # Errors
 ///
@@ -49,11 +49,12 @@ pub fn demangle_stream_named<R: BufRead, W: Write>(
 
 /// Copies any bytes from `input` to `output`, with each Rust symbol demangled.
 ///
-/// It holds no line: what the reader shows is written at once, except a symbol that may go on.
+/// It does not wait for the end of a line. It writes what the reader makes available at once,
+/// except a symbol that may continue.
 ///
 /// # Errors
 ///
-/// Fails if the reader, the writer or the memory for a symbol does.
+/// Fails if the reader or the writer fails, or if there is no memory for a symbol.
 ///
 /// ```
 /// let mut output = Vec::new();
@@ -96,9 +97,9 @@ pub fn demangle_bytes_formatted<R: BufRead, W: Write>(
     rustc_demangle::demangle_bytes_formatted(Global, input, output, format)
 }
 
-/// A filter of any bytes that is driven step by step, for readers that pause.
+/// A filter of any bytes that runs step by step, for readers that pause.
 ///
-/// It remembers what symbols print, in at most 4.5 MB, so a repeated symbol costs little. It
+/// It remembers the paths of symbols, in at most 4.5 MB, so a repeated symbol costs little. It
 /// allocates nothing for that before a symbol is long enough to be remembered.
 ///
 /// ```
@@ -114,7 +115,7 @@ pub struct BytesFilter {
 }
 
 impl BytesFilter {
-    /// Returns a filter that has read nothing, and prints with or without hashes.
+    /// Returns a filter that has read nothing. It prints hashes if `include_hash` is true.
     pub fn new(include_hash: bool) -> BytesFilter {
         BytesFilter::with_limit(include_hash, MAX_SIZE)
     }
@@ -136,14 +137,15 @@ impl BytesFilter {
         }
     }
 
-    /// Takes some of the bytes that the reader shows, and writes what is known of them.
+    /// Reads some of the available bytes, and writes those whose result is known.
     ///
-    /// It returns false at the end of the input, after it wrote what it held.
+    /// Returns `false` at the end of the input, after it wrote its pending bytes.
     ///
     /// # Errors
     ///
-    /// Fails if the reader, the writer or the memory for a symbol does. If the reader or the memory
-    /// failed, nothing was taken or written, and the step can be made again.
+    /// Fails if the reader or the writer fails, or if there is no memory for a symbol. If the
+    /// reader or the memory failed, nothing was read or written, and the caller can repeat the
+    /// step.
     pub fn step<R: BufRead, W: Write>(
         &mut self,
         input: &mut R,

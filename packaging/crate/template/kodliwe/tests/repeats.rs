@@ -1,5 +1,6 @@
-//! `demangle_bytes`, which remembers what symbols print, gives what `demangle_slice` does, which
-//! remembers nothing: whatever chunks the reader shows, and however often a symbol comes.
+//! `demangle_bytes`, which remembers the paths of symbols, writes the same as `demangle_slice`,
+//! which remembers nothing. This holds for all chunks of the reader and for symbols that come
+//! repeatedly.
 #![cfg(feature = "std")]
 use std::io::{self, BufRead, Read};
 
@@ -28,7 +29,7 @@ const SYMBOLS: [&str; 22] = [
     "a word",
 ];
 
-/// Shows a text by chunks.
+/// A reader that makes a text available in chunks.
 struct Chunks<'a> {
     text: &'a [u8],
     size: usize,
@@ -54,7 +55,7 @@ impl BufRead for Chunks<'_> {
     }
 }
 
-/// Returns a symbol whose references double its text at each level.
+/// Returns a symbol whose references double its path at each level.
 fn deep_tuple(levels: usize) -> String {
     let digits = b"0123456789abcdefghijklmnopqrstuvwxyz";
     let (mut symbol, mut at) = ("IC1aTC1bC1bE".to_string(), 4);

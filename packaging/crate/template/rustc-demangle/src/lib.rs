@@ -1,7 +1,6 @@
 //! The public interface of the crate `rustc-demangle` 0.1.28 over Kodliwe.
 //!
-//! A program that depends on that crate takes this one in its place by two lines in its
-//! `Cargo.toml`:
+//! A program that depends on that crate uses this one instead by two lines in its `Cargo.toml`:
 //!
 //! ```toml
 //! [patch.crates-io]
@@ -33,15 +32,15 @@ pub use kodliwe::demangle_stream;
 ///
 /// [`Display`](fmt::Display) and [`Debug`](fmt::Debug) print the path that the symbol names. The
 /// alternate form (`{:#}`) leaves out the hash of a legacy symbol, and of a v0 symbol the
-/// disambiguators of crates and the types of numbers. A text that is not a symbol is printed as it
-/// is. Width, precision and other flags have no effect.
+/// disambiguators of crates and the types of numbers. A text that is not a symbol is printed
+/// unchanged. Width, precision and other flags have no effect.
 ///
 /// Printing allocates nothing. A path is cut at 1,000,000 bytes: `{size limit reached}` and the
 /// symbol's suffix follow.
 pub struct Demangle<'a>(kodliwe::Demangle<'a>);
 
 impl<'a> Demangle<'a> {
-    /// Returns the text that was given, without an ending that ThinLTO added.
+    /// Returns the original text, without a suffix that ThinLTO added.
     pub fn as_str(&self) -> &'a str {
         self.0.as_str()
     }
@@ -65,9 +64,9 @@ pub struct TryDemangleError {
     _priv: (),
 }
 
-/// Reads a text as a Rust symbol. A text that is not one is kept as it is.
+/// Reads a text as a Rust symbol. A text that is not a symbol prints unchanged.
 ///
-/// An ending that ThinLTO added is taken off first, also of a text that is not a symbol.
+/// First removes a suffix that ThinLTO added, even from a text that is not a symbol.
 ///
 /// ```
 /// use rustc_demangle::demangle;

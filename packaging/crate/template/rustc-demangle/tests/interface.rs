@@ -1,11 +1,12 @@
-//! The public interface, as the published crate has it: this file is compiled with either.
+//! The public interface, which is that of the published crate. This file is compiled with either.
 use rustc_demangle::{demangle, try_demangle, Demangle, TryDemangleError};
 use std::error::Error;
 use std::fmt::{Debug, Display};
 use std::hash::Hash;
 use std::panic::{RefUnwindSafe, UnwindSafe};
 
-/// Whether a type has a trait: the inherent constant is only there where it has, and then goes before the trait's.
+/// Whether a type has a trait: the inherent constant exists only if it has, and takes precedence
+/// over the trait's.
 macro_rules! has {
     ($type:ty: $($bound:tt)+) => {{
         struct Probe<T>(std::marker::PhantomData<T>);

@@ -18,7 +18,7 @@ pub fn report<E: Write>(errors: &mut E, line: &str, status: u8) -> u8 {
     status
 }
 
-/// Returns the line that reports a fault.
+/// Returns the line that reports an error.
 fn line_of(fault: &StreamFault) -> &'static str {
     match fault {
         StreamFault::Read(_) => "demangle_filter: read failed\n",
@@ -34,8 +34,7 @@ fn line_of(fault: &StreamFault) -> &'static str {
 ///
 /// # Errors
 ///
-/// Returns the line that reports the fault. If the flush fails, that fault is reported before any
-/// other.
+/// Returns the line that reports the error. If the flush fails, it reports that error and no other.
 fn filter<R: BufRead, W: Write>(
     alloc: Global,
     input: &mut R,
@@ -54,14 +53,14 @@ fn filter<R: BufRead, W: Write>(
 /// The arguments are checked before anything is read. An error of `errors` is ignored.
 pub fn filter_run<R: BufRead, W: Write, E: Write>(
     alloc: Global,
-    words: &[String],
+    args: &[String],
     input: &mut R,
     output: &mut W,
     errors: &mut E,
 ) -> u8 {
-    let include_hash = match words {
+    let include_hash = match args {
         [] => true,
-        [word] if word.as_str() == "--no-hash" => false,
+        [arg] if arg.as_str() == "--no-hash" => false,
         _ => return report(errors, USAGE, 2),
     };
     match filter(alloc, input, output, include_hash) {

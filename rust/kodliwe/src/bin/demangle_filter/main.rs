@@ -3,6 +3,7 @@
 #![allow(unused_imports, unused_labels, unused_variables)]
 #![allow(clippy::complexity, clippy::style, clippy::manual_unwrap_or_default)]
 #![cfg_attr(test, allow(unused_assignments, clippy::suspicious))]
+#![cfg_attr(not(feature = "std"), allow(dead_code))]
 
 use kodliwe::support::rt::AllocGlobal;
 use kodliwe::support::rt::HostRuntime;
@@ -25,16 +26,17 @@ use std::process::ExitCode;
 
 /// Returns the arguments after the program's name.
 fn arguments(rt: &(impl Env + AllocGlobal)) -> io::Result<Vec<String>> {
-    let words = env::args(rt)?;
-    Ok(words.skip(1).collect_in::<Vec<String>>(rt.alloc())?)
+    let args = env::args(rt)?;
+    Ok(args.skip(1).collect_in::<Vec<String>>(rt.alloc())?)
 }
 
+/// Runs the program over the standard streams, and returns its exit status.
 fn main() -> ExitCode {
     let rt = HostRuntime;
     let alloc = rt.alloc();
     let mut errors = rt.stderr().lock();
-    let words = match arguments(&rt) {
-        Ok(words) => words,
+    let args = match arguments(&rt) {
+        Ok(args) => args,
         Err(error) => {
             if error.kind() == ErrorKind::OutOfMemory {
                 return ExitCode::from(report(&mut errors, OUT_OF_MEMORY, 1));
@@ -51,7 +53,7 @@ fn main() -> ExitCode {
     };
     let status = filter_run(
         alloc,
-        words.as_slice(),
+        args.as_slice(),
         &mut input,
         &mut output.writer(),
         &mut errors,

@@ -28,13 +28,13 @@ struct Ended {
 
 fn run<R: BufRead, W: Write>(
     alloc: Global,
-    words: &[&str],
+    args: &[&str],
     input: &mut R,
     output: &mut W,
 ) -> Result<Ended, AllocError> {
     let mut owned = Vec::new(alloc);
-    for word in words.iter() {
-        owned.push(String::from_str(alloc, word)?)?;
+    for arg in args.iter() {
+        owned.push(String::from_str(alloc, arg)?)?;
     }
     let mut errors = Vec::new(alloc);
     let status = filter_run(alloc, owned.as_slice(), input, output, &mut errors);
@@ -45,13 +45,13 @@ fn run<R: BufRead, W: Write>(
 fn assert_writes(
     rt: &impl Abort,
     alloc: Global,
-    words: &[&str],
+    args: &[&str],
     text: &[u8],
     wanted: &[u8],
 ) -> Result<(), AllocError> {
     let mut input = text;
     let mut output = Vec::new(alloc);
-    let ended = run(alloc, words, &mut input, &mut output)?;
+    let ended = run(alloc, args, &mut input, &mut output)?;
     assert_eq!(ended.status, 0, "of {text:?}");
     assert_eq!(output.as_slice(), wanted, "of {text:?}");
     assert!(ended.errors.is_empty(), "of {text:?}");
@@ -88,17 +88,17 @@ fn other_arguments_read_nothing() -> Result<(), Fail> {
         &["--no-hash", "x"],
         &["--no-hash "],
     ];
-    for words in cases {
+    for args in cases {
         let mut input: &[u8] = b"_ZN3fooE\n";
         let mut output = Vec::new(alloc);
-        let ended = run(alloc, words, &mut input, &mut output)?;
-        assert_eq!(ended.status, 2, "with {words:?}");
+        let ended = run(alloc, args, &mut input, &mut output)?;
+        assert_eq!(ended.status, 2, "with {args:?}");
         assert_eq!(
             ended.errors.as_slice(),
             b"usage: demangle_filter [--no-hash]\n".as_slice()
         );
-        assert!(output.is_empty(), "with {words:?}");
-        assert_eq!(input, b"_ZN3fooE\n".as_slice(), "with {words:?}");
+        assert!(output.is_empty(), "with {args:?}");
+        assert_eq!(input, b"_ZN3fooE\n".as_slice(), "with {args:?}");
     }
     Ok(())
 }
@@ -238,21 +238,15 @@ fn lines_are_written_before_more_is_read() -> Result<(), Fail> {
 fn an_error_of_standard_error_is_ignored() -> Result<(), Fail> {
     let rt = HostRuntime;
     let alloc = rt.alloc();
-    let mut words = Vec::new(alloc);
+    let mut args = Vec::new(alloc);
     for wanted in [1, 2] {
         let mut input: &[u8] = b"_ZN3fooE\n\xFF";
         let mut output = Vec::new(alloc);
         let mut errors = FailingWriter::new(alloc, b"", 0, false)?;
-        let status = filter_run(
-            alloc,
-            words.as_slice(),
-            &mut input,
-            &mut output,
-            &mut errors,
-        );
+        let status = filter_run(alloc, args.as_slice(), &mut input, &mut output, &mut errors);
         assert_eq!(status, wanted);
         assert!(errors.written().is_empty());
-        words.push(String::from_str(alloc, "--hash")?)?;
+        args.push(String::from_str(alloc, "--hash")?)?;
     }
     Ok(())
 }

@@ -82,7 +82,9 @@ pub enum ValuedOption {
 #[derive(Clone, Copy)]
 pub enum Argument<'a> {
     Symbol,
+    /// `-`.
     Stdin,
+    /// `--`.
     End,
     /// An option, with its value if the argument includes it.
     Valued(ValuedOption, Option<&'a str>),
@@ -90,6 +92,7 @@ pub enum Argument<'a> {
     Fold,
     Help,
     Version,
+    /// Any other argument that starts with `-`.
     Unknown,
 }
 
@@ -217,8 +220,8 @@ impl<'a> Request<'a> {
         Ok(())
     }
 
-    /// Applies the value of an option; `argument` is the option's argument. Fails if the value is not
-    /// valid, if the output was set before, or if memory can't be allocated.
+    /// Applies the value of an option; `argument` is the option's argument. Fails if the value is
+    /// not valid, if the output was set before, or if memory can't be allocated.
     fn set_value(
         &mut self,
         option: ValuedOption,

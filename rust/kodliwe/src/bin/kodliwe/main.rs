@@ -3,6 +3,7 @@
 #![allow(unused_imports, unused_labels, unused_variables)]
 #![allow(clippy::complexity, clippy::style, clippy::manual_unwrap_or_default)]
 #![cfg_attr(test, allow(unused_assignments, clippy::suspicious))]
+#![cfg_attr(not(feature = "std"), allow(dead_code))]
 
 use kodliwe::support::rt::AllocGlobal;
 use kodliwe::support::rt::HostRuntime;

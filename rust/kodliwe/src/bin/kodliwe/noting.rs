@@ -9,7 +9,7 @@ use std::io;
 use std::io::{Read, Write};
 
 /// The magic numbers and byte order marks of such inputs, and what a note says about each.
-const MARKS: [(&[u8], &str); 5] = [
+const MAGIC_NUMBERS: [(&[u8], &str); 5] = [
     (b"\x1F\x8B", "compressed (gzip); decompress it first"),
     (b"\x28\xB5/\xFD", "compressed (zstd); decompress it first"),
     (b"\xFD7zXZ\0", "compressed (xz); decompress it first"),
@@ -19,7 +19,7 @@ const MARKS: [(&[u8], &str); 5] = [
 
 /// Returns what a note says about an input that begins with this chunk.
 fn remark_on(chunk: &[u8]) -> Option<&'static str> {
-    for (mark, remark) in MARKS {
+    for (mark, remark) in MAGIC_NUMBERS {
         if chunk.starts_with(mark) {
             return Some(remark);
         }

@@ -27,16 +27,16 @@ impl Replacement {
 }
 
 /// Why an output was not opened.
-pub struct OpenFault {
+pub struct OpenError {
     /// Whether the folder of the file failed, and not the file.
     pub is_in_folder: bool,
     pub error: io::Error,
 }
 
-impl OpenFault {
+impl OpenError {
     /// Returns the error of a call on the file itself.
-    fn of_file(error: io::Error) -> OpenFault {
-        OpenFault {
+    fn of_file(error: io::Error) -> OpenError {
+        OpenError {
             is_in_folder: false,
             error,
         }
@@ -44,7 +44,7 @@ impl OpenFault {
 
     /// Returns the error of a call that looks for the file, or creates one next to it. It is
     /// attributed to the folder if the folder can't be used.
-    fn in_folder(error: io::Error) -> OpenFault {
+    fn in_folder(error: io::Error) -> OpenError {
         let is_in_folder = matches!(
             error.kind(),
             ErrorKind::NotFound
@@ -52,7 +52,7 @@ impl OpenFault {
                 | ErrorKind::PermissionDenied
                 | ErrorKind::ReadOnlyFilesystem
         );
-        OpenFault {
+        OpenError {
             is_in_folder,
             error,
         }
@@ -112,35 +112,39 @@ fn open_next_to<F: Files>(
     create_temporary(alloc, files, path)
 }
 
-/// Opens a file for writing. An existing file that is not a device or a pipe is replaced when the
-/// new file is complete. The new file has its permissions. Fails if the file or its folder can't be
-/// used, or memory can't be allocated.
+/// Opens the output file for a path. Returns the file, and the replacement to finish when the file
+/// is complete.
+///
+/// If a regular file or nothing is at the path, creates a new file next to it. The new file gets
+/// the permissions of the one that it replaces. Opens anything else, such as a device or a pipe,
+/// itself, and returns no replacement. Fails if the file or its folder can't be used, or memory
+/// can't be allocated.
 pub fn open_output<F: Files>(
     alloc: Global,
     files: &F,
     path: &str,
-) -> Result<(F::File, Option<Replacement>), OpenFault> {
+) -> Result<(F::File, Option<Replacement>), OpenError> {
     let old = match files.metadata(path) {
         Ok(old) => old,
         Err(error) if error.kind() == ErrorKind::NotFound => {
-            return open_new(alloc, files, path).map_err(OpenFault::in_folder);
+            return open_new(alloc, files, path).map_err(OpenError::in_folder);
         }
-        Err(error) => return Err(OpenFault::in_folder(error)),
+        Err(error) => return Err(OpenError::in_folder(error)),
     };
     if !old.is_file() {
         let file = OpenOptions::new().write(true).open(files, path);
         return match file {
             Ok(file) => Ok((file, None)),
-            Err(error) => Err(OpenFault::of_file(error)),
+            Err(error) => Err(OpenError::of_file(error)),
         };
     }
     let (file, replacement) = match open_next_to(alloc, files, path) {
         Ok(opened) => opened,
-        Err(error) => return Err(OpenFault::in_folder(error)),
+        Err(error) => return Err(OpenError::in_folder(error)),
     };
     if let Err(error) = OpenFile::set_permissions(&file, old.permissions()) {
         replacement.discard(files);
-        return Err(OpenFault::of_file(error));
+        return Err(OpenError::of_file(error));
     }
     Ok((file, Some(replacement)))
 }

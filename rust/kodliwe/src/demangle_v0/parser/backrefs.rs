@@ -10,8 +10,8 @@ use crate::demangle_v0_tokens::output::Output;
 impl<const N: usize> Parser<'_, N> {
     /// Reads a back reference after its `B`, and continues at its target if `output` prints.
     ///
-    /// `unit` is the continuation at which the target begins. The frame on top of the stack then has
-    /// the place after the reference.
+    /// `unit` is the continuation at which the target begins. The frame on top of the stack then
+    /// has the place after the reference.
     #[inline(always)]
     pub(super) fn follow_backref<V: Output>(
         &mut self,

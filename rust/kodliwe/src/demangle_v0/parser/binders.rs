@@ -16,8 +16,8 @@ impl<const N: usize> Parser<'_, N> {
         number: u64,
         output: &mut V,
     ) -> Result<(), SinkRefused> {
-        let stretch = Token::Binder(self.state.lifetimes, number);
+        let token = Token::Binder(self.state.lifetimes, number);
         self.state.lifetimes += u128::from(number);
-        self.emit(&stretch, output)
+        self.emit(&token, output)
     }
 }

@@ -96,7 +96,8 @@ impl<const N: usize> Parser<'_, N> {
         self.argument(at)
     }
 
-    /// Queues the `_` for the arguments of a dyn trait path, which were read. The bracket stays open.
+    /// Queues the `_` for the arguments of a dyn trait path, which were read. The bracket stays
+    /// open.
     #[inline(always)]
     pub(super) fn folded_trait_arguments(&mut self) -> Continuation {
         self.put(FixedText::Placeholder);

@@ -32,7 +32,8 @@ struct PackedFrame {
     depth_left: u16,
     continuation: Continuation,
     in_value: bool,
-    /// A byte. In two bytes, it leaves none unused, so a frame is cleared and copied as two words.
+    /// One byte, stored in two. So no byte is unused, and the compiler clears and copies a frame as
+    /// two machine words.
     letter: u16,
 }
 
@@ -58,7 +59,8 @@ impl Default for PackedFrame {
 fn pack(frame: Frame) -> PackedFrame {
     PackedFrame {
         low: (frame.number % TWO_64) as u64,
-        // 80 bits hold the number of all lifetimes in scope: fewer than 2^64 for each of 500 levels.
+        // 80 bits hold the number of all lifetimes in scope: fewer than 2^64 for each of 500
+        // levels.
         high: (frame.number / TWO_64 % 0x10000) as u16,
         depth_left: frame.depth_left,
         continuation: frame.continuation,

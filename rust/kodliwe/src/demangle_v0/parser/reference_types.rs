@@ -67,9 +67,9 @@ impl<const N: usize> Parser<'_, N> {
         if index == 0 || !output.is_printing() {
             return Ok(after_reference_lifetime(is_mut));
         }
-        let (stretch, place) = spaced_lifetime(self.state.lifetimes, index, next);
+        let (token, place) = spaced_lifetime(self.state.lifetimes, index, next);
         self.state.place = place;
-        self.emit(&stretch, output)?;
+        self.emit(&token, output)?;
         Ok(after_reference_lifetime(is_mut))
     }
 }

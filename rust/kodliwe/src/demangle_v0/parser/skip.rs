@@ -19,7 +19,7 @@ pub fn is_skipped(continuation: Continuation, fold_arguments: bool) -> bool {
 
 /// Returns the continuation that reads such a part.
 #[inline(always)]
-fn own_point(continuation: Continuation) -> Continuation {
+fn skipped_continuation(continuation: Continuation) -> Continuation {
     match continuation {
         Continuation::InherentImplPath | Continuation::TraitImplPath => Continuation::Path,
         other => other,
@@ -72,8 +72,8 @@ impl<const N: usize> Parser<'_, N> {
         }
     }
 
-    /// Reads the impl path or the folded arguments at which the parser is, and continues after them.
-    /// Returns what is left to print if the stack is full before they end.
+    /// Reads the impl path or the folded arguments at which the parser is, and continues after
+    /// them. Returns what is left to print if the stack is full before they end.
     #[inline(always)]
     pub(crate) fn skip_impl_path(&mut self) -> Option<Unfinished> {
         let base = self.stack.len();
@@ -81,7 +81,7 @@ impl<const N: usize> Parser<'_, N> {
             continuation: self.continuation,
             state: self.state,
         };
-        self.continuation = own_point(self.continuation);
+        self.continuation = skipped_continuation(self.continuation);
         self.state.in_value = false;
         self.finish_impl_path(Unfinished::ImplPath(base, printing))
     }

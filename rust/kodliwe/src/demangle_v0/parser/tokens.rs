@@ -15,10 +15,10 @@ impl<const N: usize> Parser<'_, N> {
     #[inline(always)]
     pub(super) fn emit<V: Output>(
         &mut self,
-        stretch: &Token,
+        token: &Token,
         output: &mut V,
     ) -> Result<(), SinkRefused> {
-        output.emit(&self.source, stretch, &mut self.looks)
+        output.emit(&self.source, token, &mut self.looks)
     }
 
     /// Reads the token at the current offset, and prints nothing.
@@ -47,10 +47,10 @@ impl<const N: usize> Parser<'_, N> {
         output: &mut V,
     ) -> Result<Continuation, StepError> {
         match self.token_at(token_kind, output) {
-            TokenOutcome::Parsed(stretch, next) => {
+            TokenOutcome::Parsed(token, next) => {
                 self.state.place = next;
                 self.state.is_bracket_open = false;
-                self.emit(&stretch, output)?;
+                self.emit(&token, output)?;
                 Ok(Continuation::End)
             }
             TokenOutcome::NotParsed(pending_text) => Err(StepError::Abort(pending_text)),

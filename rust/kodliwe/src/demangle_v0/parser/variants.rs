@@ -55,9 +55,9 @@ impl<const N: usize> Parser<'_, N> {
     #[inline(never)]
     pub(super) fn field<V: Output>(&mut self, output: &mut V) -> Result<Continuation, StepError> {
         match self.token_at(TokenKind::FieldName, output) {
-            TokenOutcome::Parsed(stretch, next) => {
+            TokenOutcome::Parsed(token, next) => {
                 self.state.place = next;
-                self.emit(&stretch, output)?;
+                self.emit(&token, output)?;
                 Ok(Continuation::FieldColon)
             }
             TokenOutcome::NotParsed(pending_text) => Err(StepError::Abort(pending_text)),

@@ -6,8 +6,8 @@ use crate::demangle_v0_tokens::read::{TokenOutcome, TokenReader, invalid_token, 
 use crate::demangle_v0_tokens::token::{Abi, Token};
 
 impl TokenReader<'_> {
-    /// Returns the qualifiers of a function type whose ABI has this name. The name is invalid if its
-    /// ASCII part is empty or its Punycode part is not.
+    /// Returns the qualifiers of a function type whose ABI has this name. The name is invalid if
+    /// its ASCII part is empty or its Punycode part is not.
     fn abi_named(&self, is_unsafe: bool, ident: Ident, next: usize) -> TokenOutcome {
         // The Rust crate rejects both: an ABI's name is ASCII, with `_` in place of its `-`.
         if ident.ascii.from == ident.ascii.to || ident.punycode.from < ident.punycode.to {

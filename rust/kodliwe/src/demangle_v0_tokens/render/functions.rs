@@ -17,7 +17,8 @@ impl Source<'_> {
         out.put("-")
     }
 
-    /// Prints the name of an ABI, with `-` in place of each `_`. Each part of the name is one piece.
+    /// Prints the name of an ABI, with `-` in place of each `_`. Each part of the name is one
+    /// piece.
     fn put_abi_name<S: TextSink>(
         &self,
         name: Part,

@@ -205,8 +205,8 @@ fn the_writer_of_bytes_fails_at_each_write() -> Result<(), Fail> {
     let alloc = rt.alloc();
     let mut text = Vec::new(alloc);
     let mut wanted_writes: Vec<&[u8]> = Vec::new(alloc);
-    // A v0 symbol is one write, whether it is found first or again. The legacy symbols are too short
-    // for the memo, so each piece of theirs is one write.
+    // A v0 symbol is one write, whether it is found first or again. The legacy symbols are too
+    // short for the memo, so each piece of theirs is one write.
     for _ in 0..2 {
         text.extend_from_slice(LINE)?;
         text.push(b'\n')?;

@@ -1,6 +1,6 @@
 // Made from crates/demangle_vectors/src/tests/folded.rt by packaging/crate/erase.py: edit that file instead.
 //! Tests of symbols with `_` for their generic arguments.
-use super::assert_refused;
+use super::assert_rejected;
 use crate::rustc_demangle::sink::ArraySink;
 use crate::rustc_demangle::{
     Format, Looks, demangle, demangle_bytes_formatted, demangle_slice_formatted,
@@ -114,7 +114,7 @@ fn all_else_prints_as_without_folding() {
 fn folding_accepts_the_same_symbols() {
     let rt = HostRuntime;
     for text in ["_RINvC1a1bh", "_RINvC1a1bRE", "_RINvC1a1b@E"] {
-        assert_refused(&rt, text, text);
+        assert_rejected(&rt, text, text);
         assert!(
             folded_is(text, true, 1_000_000, text),
             "{text} with the hash"

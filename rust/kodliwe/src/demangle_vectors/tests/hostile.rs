@@ -1,6 +1,6 @@
 // Made from crates/demangle_vectors/src/tests/hostile.rt by packaging/crate/erase.py: edit that file instead.
 //! Tests of symbols that are made to do harm.
-use super::{assert_prints, assert_refused, print_symbol};
+use super::{assert_prints, assert_rejected, print_symbol};
 use crate::support::format;
 use crate::support::rt::HostRuntime;
 use crate::support::string::RepeatIn;
@@ -17,7 +17,7 @@ fn lengths_without_bound_are_rejected() {
         "_ZN3foéE",
         "_ZN2éE",
     ] {
-        assert_refused(&rt, text, text);
+        assert_rejected(&rt, text, text);
     }
 }
 

@@ -1,6 +1,6 @@
 // Made from crates/demangle_vectors/src/tests/refused.rt by packaging/crate/erase.py: edit that file instead.
 //! Tests of texts that are not symbols.
-use super::assert_refused;
+use super::assert_rejected;
 use crate::demangle_vectors::printed_is;
 use crate::support::rt::HostRuntime;
 
@@ -20,7 +20,7 @@ fn texts_that_no_grammar_spells_print_themselves() {
         "_ZN6$u000$",
         "_ZN8$ud800$E",
     ] {
-        assert_refused(&rt, text, text);
+        assert_rejected(&rt, text, text);
     }
 }
 
@@ -40,7 +40,7 @@ fn symbols_with_a_suffix_that_is_not_allowed_print_themselves() {
         "_RC3foo.a\u{7f}",
         "_RC3foo.ü",
     ] {
-        assert_refused(&rt, text, text);
+        assert_rejected(&rt, text, text);
     }
 }
 
@@ -55,7 +55,7 @@ fn a_thin_lto_suffix_is_stripped_off_any_text() {
         ("a.llvm.A.llvm.G", "a.llvm.A.llvm.G"),
         ("foo.llvm.AG", "foo.llvm.AG"),
     ] {
-        assert_refused(&rt, text, printed);
+        assert_rejected(&rt, text, printed);
     }
 }
 

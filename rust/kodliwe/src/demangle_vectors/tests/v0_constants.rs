@@ -1,6 +1,6 @@
 // Made from crates/demangle_vectors/src/tests/v0_constants.rt by packaging/crate/erase.py: edit that file instead.
 //! Tests of v0 symbols: constants.
-use super::{assert_prints, assert_refused};
+use super::{assert_prints, assert_rejected};
 use crate::support::alloc::Global;
 use crate::support::format;
 use crate::support::process::Abort;
@@ -194,6 +194,6 @@ fn malformed_constants_are_rejected() {
         "_RIC0KeG_E",
         "_RIC0KzE",
     ] {
-        assert_refused(&rt, text, text);
+        assert_rejected(&rt, text, text);
     }
 }

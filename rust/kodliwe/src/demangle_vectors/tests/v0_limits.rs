@@ -1,6 +1,6 @@
 // Made from crates/demangle_vectors/src/tests/v0_limits.rt by packaging/crate/erase.py: edit that file instead.
 //! Tests of v0 symbols at their limits: depth, the length of a name, and the size of the output.
-use super::{assert_prints, assert_prints_long, assert_refused, print_symbol, repeat_between};
+use super::{assert_prints, assert_prints_long, assert_rejected, print_symbol, repeat_between};
 use crate::rustc_demangle::sink::WriteSink;
 use crate::rustc_demangle::{demangle, try_demangle};
 use crate::support::alloc::{AllocError, Global};
@@ -23,7 +23,7 @@ fn types_nest_up_to_500_deep() -> Result<(), Fail> {
     let text = repeat_between(alloc, "<", "&", 499, "()>")?;
     assert_prints(&rt, deep.as_str(), text.as_str(), text.as_str());
     let deeper = repeat_between(alloc, "_RMC0", "R", 500, "u")?;
-    assert_refused(&rt, deeper.as_str(), deeper.as_str());
+    assert_rejected(&rt, deeper.as_str(), deeper.as_str());
     Ok(())
 }
 
@@ -38,7 +38,7 @@ fn paths_nest_up_to_500_deep() -> Result<(), Fail> {
     assert_prints(&rt, deep.as_str(), text.as_str(), text.as_str());
     let deeper = repeat_between(alloc, "_R", "Nv", 500, "C1a1b")?;
     let deeper = format!(in alloc; "{deeper}{names}")?;
-    assert_refused(&rt, deeper.as_str(), deeper.as_str());
+    assert_rejected(&rt, deeper.as_str(), deeper.as_str());
     Ok(())
 }
 
@@ -51,7 +51,7 @@ fn constants_nest_up_to_500_deep() -> Result<(), Fail> {
     let alt = repeat_between(alloc, "::<{", "&", 498, "0}>")?;
     assert_prints(&rt, deep.as_str(), plain.as_str(), alt.as_str());
     let deeper = repeat_between(alloc, "_RIC0K", "R", 499, "h0_E")?;
-    assert_refused(&rt, deeper.as_str(), deeper.as_str());
+    assert_rejected(&rt, deeper.as_str(), deeper.as_str());
     Ok(())
 }
 
@@ -65,7 +65,7 @@ fn patterns_nest_up_to_500_deep() -> Result<(), Fail> {
     assert_prints(&rt, deep.as_str(), "<u32 is !null>", "<u32 is !null>");
     let deeper = repeat_between(alloc, "_RMC0Wm", "O", 499, "NE")?;
     let deeper = format!(in alloc; "{deeper}{ends}")?;
-    assert_refused(&rt, deeper.as_str(), deeper.as_str());
+    assert_rejected(&rt, deeper.as_str(), deeper.as_str());
     Ok(())
 }
 
@@ -153,7 +153,7 @@ fn lifetimes_are_printed_up_to_the_limit() -> Result<(), Fail> {
     let text = format!(in alloc; "{text}.x")?;
     assert_prints_long(&rt, alloc, "_RMC0FGZZZ_Eu.x", text.as_str())?;
     let refused = "_RMC0FGZZZZZZZZZZZ_Eu";
-    assert_refused(&rt, refused, refused);
+    assert_rejected(&rt, refused, refused);
     let text = format!(in alloc; "{lifetimes}, '_111114{MARKER}")?;
     assert_eq!(text.as_str().len(), 1_000_021);
     for include_hash in [true, false] {

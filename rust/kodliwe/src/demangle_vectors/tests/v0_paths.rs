@@ -1,6 +1,6 @@
 // Made from crates/demangle_vectors/src/tests/v0_paths.rt by packaging/crate/erase.py: edit that file instead.
 //! Tests of v0 symbols: names and paths.
-use super::{assert_prints, assert_refused};
+use super::{assert_prints, assert_rejected};
 use crate::support::rt::HostRuntime;
 
 #[test]
@@ -179,7 +179,7 @@ fn damaged_paths_print_themselves() {
         "_RC1a b",
         "_RC1a.\x7f",
     ] {
-        assert_refused(&rt, text, text);
+        assert_rejected(&rt, text, text);
     }
 }
 
@@ -193,7 +193,7 @@ fn numbers_of_more_than_64_bits_are_rejected() {
         "_RC18446744073709551616a",
         "_RC18446744073709551617a",
     ] {
-        assert_refused(&rt, text, text);
+        assert_rejected(&rt, text, text);
     }
 }
 
@@ -201,6 +201,6 @@ fn numbers_of_more_than_64_bits_are_rejected() {
 fn punycode_without_a_digit_is_rejected() {
     let rt = HostRuntime;
     for text in ["_RCu1_", "_RCu1__", "_RCu2a_", "_RCu0"] {
-        assert_refused(&rt, text, text);
+        assert_rejected(&rt, text, text);
     }
 }

@@ -1,6 +1,6 @@
 // Made from crates/demangle_vectors/src/tests/v0_references.rt by packaging/crate/erase.py: edit that file instead.
 //! Tests of v0 symbols: back references, and the output for a damaged target.
-use super::{assert_prints, assert_refused};
+use super::{assert_prints, assert_rejected};
 use crate::support::rt::HostRuntime;
 
 #[test]
@@ -160,6 +160,6 @@ fn references_ahead_are_rejected() {
         "_RIC1aKB5_E",
         "_RIC1aB_",
     ] {
-        assert_refused(&rt, text, text);
+        assert_rejected(&rt, text, text);
     }
 }

@@ -1,6 +1,6 @@
 // Made from crates/demangle_vectors/src/tests/v0_types.rt by packaging/crate/erase.py: edit that file instead.
 //! Tests of v0 symbols: types, functions, binders and patterns.
-use super::{assert_prints, assert_refused};
+use super::{assert_prints, assert_rejected};
 use crate::support::rt::HostRuntime;
 
 #[test]
@@ -206,6 +206,6 @@ fn damaged_types_print_themselves() {
         "_RMC0DC1aL_",
         "_RMC0g",
     ] {
-        assert_refused(&rt, text, text);
+        assert_rejected(&rt, text, text);
     }
 }

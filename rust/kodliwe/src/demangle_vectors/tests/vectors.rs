@@ -1,7 +1,7 @@
 // Made from crates/demangle_vectors/src/tests/vectors.rt by packaging/crate/erase.py: edit that file instead.
 //! The vectors of the Rust crate's tests.
 use super::v0_constants::assert_constant;
-use super::{assert_prints, assert_refused, repeat_between};
+use super::{assert_prints, assert_rejected, repeat_between};
 use crate::support::alloc::{AllocError, Global};
 use crate::support::format;
 use crate::support::rt::HostRuntime;
@@ -286,6 +286,6 @@ fn constants_print_their_values() -> Result<(), Fail> {
 fn rejected_symbols_print_themselves() {
     let rt = HostRuntime;
     for text in REFUSED {
-        assert_refused(&rt, text, text);
+        assert_rejected(&rt, text, text);
     }
 }

@@ -5,7 +5,8 @@ use crate::rustc_demangle::stream::{StreamFault, demangle_stream_named};
 use crate::support::alloc::Global;
 use crate::support::vec::Vec;
 
-/// The lines of a text are its only division into parts of their form.
+/// A text is divided in only one way into parts that are not empty and have their line feeds
+/// exactly at their ends. The last part may lack one. These parts are the lines of the text.
 pub fn lines_are_the_only_division() {}
 
 /// The computed output of a line is the output of its division into plain texts and runs. No other

@@ -1,17 +1,17 @@
 // Made from crates/rustc_demangle/src/stream/buffer_sink.rt by packaging/crate/erase.py: edit that file instead.
-//! A sink that appends to held bytes.
+//! A sink that appends to a `PieceBuffer`.
 
 use crate::demangle_sink::{SinkRefused, TextSink};
 use crate::piece_buffer::PieceBuffer;
 
-/// A sink that appends each piece to held bytes. It fails if they have no room for a piece.
+/// A sink that appends each piece to a buffer. It fails if the buffer has no room for a piece.
 pub(super) struct BufferSink<'h> {
     held: &'h mut PieceBuffer,
     failed: bool,
 }
 
 impl<'h> BufferSink<'h> {
-    /// Returns a sink that appends to these bytes. It has not failed.
+    /// Returns a sink that appends to this buffer. It has not failed.
     pub(super) fn new(held: &'h mut PieceBuffer) -> Self {
         BufferSink {
             held,

@@ -76,8 +76,8 @@ fn run_to_end<R: BufRead, W: Write, A: Allocator>(
 ///
 /// The input is read in the reader's chunks and not by lines. The bytes of a chunk between two runs
 /// are one write. Memory holds the unfinished run at the end of the bytes so far, and a
-/// `SymbolMemo`. So a repeated symbol is one write, and so is a v0 symbol that has at least 20 bytes
-/// and prints up to 2,048. Each piece of another symbol is one write.
+/// `SymbolMemo`. So a repeated symbol is one write, and so is a v0 symbol that has at least 20
+/// bytes and prints up to 2,048. Each piece of another symbol is one write.
 ///
 /// # Errors
 ///

@@ -1,4 +1,4 @@
-//! The properties of characters that literals ask for, with the interface of the kit's crate
+//! The properties of characters that literals need, with the interface of the kit's crate
 //! `unicode`.
 #[rustfmt::skip]
 mod tables;
@@ -7,7 +7,7 @@ mod tables;
 pub mod properties {
     use super::tables::{CATEGORIES, GRAPHEME_EXTEND};
 
-    /// The general categories that are told apart.
+    /// The general categories whose characters are escaped, and `Other` for the rest.
     #[derive(Clone, Copy, Debug, PartialEq, Eq)]
     pub enum GeneralCategory {
         Other,
@@ -38,15 +38,15 @@ pub mod properties {
         }
     }
 
-    /// Tells whether a character has the property `Grapheme_Extend`.
+    /// Returns whether a character has the property `Grapheme_Extend`.
     pub fn is_grapheme_extend(c: char) -> bool {
         number_of(GRAPHEME_EXTEND, c) == 1
     }
 
     /// Returns the number that a table gives a character.
     ///
-    /// A table has a word for each run of characters with one number: 32 times the code point after
-    /// the run, plus the number.
+    /// A table has an entry for each run of characters with one number: 32 times the code point
+    /// after the run, plus the number.
     fn number_of(table: &[u32], c: char) -> u32 {
         let run = table.partition_point(|word| word / 32 <= u32::from(c));
         table.get(run).map_or(0, |word| word % 32)

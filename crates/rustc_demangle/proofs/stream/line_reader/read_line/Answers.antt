@@ -10,7 +10,7 @@ use Rattle.std.proofs.Transfers.{starts_with_of_eq, starts_with_trans, starts_wi
 use Rattle.std.proofs.lemmas.Option.{IfSome_then}
 use Rattle.rustc_demangle.proofs.stream.line_reader.read_line.Goals as goal
 
--- what two calls appended, one after the other
+-- the bytes that two calls appended, in order
 past_both : (old mid new : List ℕ) → StartsWith mid old → StartsWith new mid → drop (length old) new ≡ drop (length old) mid ++ drop (length mid) new
 past_both old mid new p q = ap (drop (length old)) (starts_with_rest new mid q) ∙ drop-append-le (length old) mid _ (starts_with_length mid old p)
 

@@ -9,7 +9,7 @@ use Rattle.rustc_demangle.proofs.stream.pending_run.filter_text.Goals as goal
 
 pub returns-in_default-clause-ok : goal.returns-in_default-clause-ok
 returns-in_default-clause-ok g c =
-    text_kept _ _ _ _ _ _ (length c.args.available.now - c.partial_prefix_len.result) _ _ c.requires.none c.split_at.ensures.prefix c.split_at.ensures.back c.in_ok-buffer_bytes.ensures.ok (omega arith)
+    text_kept _ _ _ _ _ _ (length c.args.available.now - c.partial_prefix_len.result) _ _ c.requires.none c.split_at.ensures.front c.split_at.ensures.back c.in_ok-buffer_bytes.ensures.ok (omega arith)
     (c.partial_prefix_len.ensures.uncut c.in_default.ensures.none) c.in_ok-write_unchanged.ensures.ok
 
 pub returns-in_err-write_unchanged-2-clause-pending : goal.returns-in_err-write_unchanged-2-clause-pending
@@ -22,7 +22,7 @@ returns-then-len-found-clause-pending g c =
 
 pub returns-then-len-found-clause-ok : goal.returns-then-len-found-clause-ok
 returns-then-len-found-clause-ok g c =
-    text_kept _ _ _ _ _ _ c.in-Some.start _ _ c.requires.none c.split_at-2.ensures.prefix c.split_at-2.ensures.back c.in_ok-buffer_bytes-2.ensures.ok (omega arith)
+    text_kept _ _ _ _ _ _ c.in-Some.start _ _ c.requires.none c.split_at-2.ensures.front c.split_at-2.ensures.back c.in_ok-buffer_bytes-2.ensures.ok (omega arith)
     (far _ _ c.in-Some.ensures.some.1 c.in-Some.ensures.some.2) c.in_ok-write_unchanged-2.ensures.ok
 
 pub write_run_bytes-requires-clause-some : goal.write_run_bytes-requires-clause-some
@@ -41,7 +41,7 @@ write_run_bytes-requires-clause-all g c = ap (λ n. list_all is_run_byte (take n
 pub returns-clause-ok : goal.returns-clause-ok
 returns-clause-ok g c =
     let le : c.run_len-len.result ≤ length c.split_at-2.result.1.now = subst (λ n. n ≤ length c.split_at-2.result.1.now) (sym c.run_len-len.ensures) (prefix_len-le-length is_run_byte c.split_at-2.result.1.now) in
-    text_run _ _ _ _ _ _ _ _ _ _ _ c.requires.none c.split_at-2.ensures.prefix c.split_at-2.ensures.back refl c.run_len-len.ensures (omega (arith, le, c.if-len-found.false))
+    text_run _ _ _ _ _ _ _ _ _ _ _ c.requires.none c.split_at-2.ensures.front c.split_at-2.ensures.back refl c.run_len-len.ensures (omega (arith, le, c.if-len-found.false))
     c.in-Some.ensures.some c.in_ok-write_unchanged-3.ensures.ok c.in_ok-write_run_bytes.ensures.ok
 
 pub returns-in_default-clause-less : goal.returns-in_default-clause-less

@@ -11,8 +11,8 @@ use kodliwe::support::test::Fail;
 use kodliwe::support::vec::Vec;
 use kodliwe::support::vec_in as vec;
 
-/// Beginnings of such inputs, and the notes on them.
-const MARKED: [(&[u8], &[u8]); 5] = [
+/// The first bytes of such inputs, and the notes on them.
+const WITH_MAGIC_NUMBER: [(&[u8], &[u8]); 5] = [
     (
         b"\x1F\x8B\x08\0 _ZN1aE",
         b"kodliwe: note: log.txt looks compressed (gzip); decompress it first\n",
@@ -35,7 +35,7 @@ const MARKED: [(&[u8], &[u8]); 5] = [
     ),
 ];
 
-/// The number of bytes of the shortest beginnings that are noted.
+/// The number of bytes of the shortest prefix that is noted.
 const LENGTHS: [usize; 5] = [2, 4, 6, 2, 2];
 
 /// Asserts what is noted about the text of a reader, of which all that is no symbol is copied.
@@ -59,7 +59,7 @@ fn assert_note(
 fn a_first_chunk_with_a_mark_is_noted_once() -> Result<(), Fail> {
     let rt = HostRuntime;
     let alloc = rt.alloc();
-    for (text, note) in MARKED {
+    for (text, note) in WITH_MAGIC_NUMBER {
         assert_note(&rt, alloc, ChunkReader::new(text, 100), text, note)?;
         let interrupted = ChunkReader::new(text, 7).interrupted();
         assert_note(&rt, alloc, interrupted, text, note)?;
@@ -71,7 +71,7 @@ fn a_first_chunk_with_a_mark_is_noted_once() -> Result<(), Fail> {
 fn a_mark_that_is_cut_is_not_noted() -> Result<(), Fail> {
     let rt = HostRuntime;
     let alloc = rt.alloc();
-    for ((text, note), least) in MARKED.into_iter().zip(LENGTHS) {
+    for ((text, note), least) in WITH_MAGIC_NUMBER.into_iter().zip(LENGTHS) {
         for len in 0..=text.len() {
             let wanted: &[u8] = if len < least { b"" } else { note };
             let prefix = &text[..len];
@@ -88,7 +88,7 @@ fn a_mark_that_is_cut_is_not_noted() -> Result<(), Fail> {
 fn a_mark_after_the_beginning_is_not_noted() -> Result<(), Fail> {
     let rt = HostRuntime;
     let alloc = rt.alloc();
-    for (text, _) in MARKED {
+    for (text, _) in WITH_MAGIC_NUMBER {
         for prefix in [1, BUFFER] {
             let mut long = vec![in alloc; b'x'; prefix]?;
             long.extend_from_slice(text)?;

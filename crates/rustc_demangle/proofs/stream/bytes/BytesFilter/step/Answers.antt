@@ -8,5 +8,5 @@ pub returns-clause-took : goal.returns-clause-took
 returns-clause-took g c = λ _.
     let rested = c.fill_buf.follows.lender-at-none in
     let filled = subst (FillKeeps _ (g.R.Read.remaining rested) (g.R.BufRead.consumable_len rested)) c.in-Ok.is c.fill_buf.follows.holds-at-none in
-    let moved = Consumes_shown _ _ _ _ c.in-Ok.available.now c.in_ok-taken.taken c.in_ok-taken.ensures.bound c.in-Ok.ensures.prefix c.in-Ok.ensures.end filled.0 filled.1 c.consume.ensures.bytes in
-    rw (← c.self.view_is) (step_took _ _ _ _ _ _ _ _ _ c.in_ok-taken.ensures.bound c.in_ok-taken.ensures.less c.in-Ok.ensures.prefix moved.0 c.in_ok-taken.ensures.ok)
+    let moved = Consumes_shown _ _ _ _ c.in-Ok.available.now c.in_ok-taken.taken c.in_ok-taken.ensures.bound c.in-Ok.ensures.front c.in-Ok.ensures.end filled.0 filled.1 c.consume.ensures.bytes in
+    rw (← c.self.view_is) (step_took _ _ _ _ _ _ _ _ _ c.in_ok-taken.ensures.bound c.in_ok-taken.ensures.less c.in-Ok.ensures.front moved.0 c.in_ok-taken.ensures.ok)
