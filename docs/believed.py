@@ -125,7 +125,7 @@ def with_impls(crates, places):
                 file = os.path.join(folder, name)
                 # A file's own item of the same name is another one.
                 meant = {item for _, item in places} - (owned(read(file)) - files.get(file, set()))
-                if re.search(r"^impl.* for (?:%s)\b" % "|".join(meant), read(file), re.M):
+                if re.search(r"^impl(?:<[^>]*>)? (?:.* for )?(?:%s)\b" % "|".join(meant), read(file), re.M):
                     files[file] = meant
     return files
 

@@ -88,11 +88,7 @@ pub fn write_part(
         let path = path_within symbol.now include_hash (min limit MAX_SIZE) in
         out.new ≡ overlay out.old (c_string (length out.old) (drop start path)) }
 {
-    let format = Format {
-        include_hash,
-        fold_arguments: false,
-        limit,
-    };
+    let format = Format::unfolded(include_hash, limit);
     write_part_formatted(symbol, out, format, start)
 }
 
@@ -136,11 +132,7 @@ pub fn write_text(text: &[u8], out: &mut [u8], include_hash: bool, limit: usize)
     ensures past { usize.MAX ≤ length (filtered_within include_hash (min limit MAX_SIZE) text.now) →
         result ≡ usize.MAX }
 {
-    let format = Format {
-        include_hash,
-        fold_arguments: false,
-        limit,
-    };
+    let format = Format::unfolded(include_hash, limit);
     write_text_formatted(text, out, format)
 }
 

@@ -6,13 +6,13 @@ use Prim.Native.Char.{code}
 use Rattle.demangle_symbol.specs.Digits.{is_byte}
 use Rattle.demangle_symbol.specs.Primitives.{optional_at}
 use Rattle.demangle_v0_grammar.specs.Items.{Items, a_type}
-use Rattle.demangle_v0_grammar.specs.Table.{print_str, list, more, type_inside, in_binder}
+use Rattle.demangle_v0_grammar.specs.Table.{print_str, list, more, parameters, returns, type_inside, in_binder}
 use Rattle.demangle_v0_grammar.specs.Binders.{binder_texts}
 use Rattle.demangle_v0_grammar.specs.Traces.{Trace, with_looks, with_texts}
 use Rattle.demangle_v0_tokens.specs.Texts.{token_items, text}
 use Rattle.demangle_v0_grammar.specs.Reading.{Place, parse}
 use Rattle.demangle_v0.specs.Traces.{trace_at, trace_of_state, with_closed_bracket}
-use Rattle.demangle_v0.specs.Continuations.{returns, is_list_end, after_list, list_costs}
+use Rattle.demangle_v0.specs.Continuations.{is_list_end, after_list, list_costs}
 use Rattle.demangle_v0.specs.Measure.{weight_left, height_at, Fits}
 use Rattle.demangle_v0.specs.Steps.{Machine, Env, StepPart, part, Performs, PerformsAt, LooksWithin, step_looks_bound}
 use Rattle.demangle_sink.specs.declared.SinkRefused.{SinkRefused}
@@ -28,9 +28,6 @@ use Rattle.demangle_v0.proofs.StepRules.{trace, child_last, refused}
 use Rattle.demangle_v0_grammar.proofs.TypeTraces.{binder_reads}
 use Rattle.demangle_v0.proofs.StepCases.{after_error, ends, moves, after_few, tells, halts}
 use Rattle.demangle_v0.proofs.ListSteps.{Listed, type_units, of_units, list_closes}
-
-abbrev pub parameters : Items
-parameters = print_str "fn(" (list ", " type_inside (print_str ")" returns))
 
 abbrev pub head : Items
 head = token_items token_kind.FunctionQualifiers 0 parameters

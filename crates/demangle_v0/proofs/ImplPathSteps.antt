@@ -15,7 +15,7 @@ use Rattle.demangle_v0.specs.Measure.{most_frames, weight_left, weights, measure
 use Rattle.demangle_v0.specs.Steps.{Machine}
 use Rattle.demangle_v0.specs.Traces.{allows_looks, with_actions, trace_at, trace_of_state, trace_of_stack, remaining_trace, with_closed_bracket}
 use Rattle.demangle_v0.specs.Loops.{ResumesAt, Valid, frame_height, Reads, ReadDone, no_output_env, no_output_machine, Skipped, StopsInImplPath, ReadsImplPath, ValidUnfinished, impl_path_state, impl_path_checkpoint, impl_path_trace, state_at, first_looks}
-use Rattle.demangle_v0.specs.Parsers.{form_of, FinishesSkip, IsValid, UnfinishedIsValid, SkipsFull, SkipsOver, checked_at, checkpoint_of}
+use Rattle.demangle_v0.specs.Parsers.{source_form, FinishesSkip, IsValid, UnfinishedIsValid, SkipsFull, SkipsOver, checked_at, checkpoint_of}
 use Rattle.demangle_v0.specs.declared.parser.machine.Parser.{Parser}
 use Rattle.demangle_v0_tokens.specs.declared.output.NoOutput.{NoOutput}
 use Rattle.demangle_v0.specs.declared.parser.Continuation.{Continuation}
@@ -180,8 +180,8 @@ module _ {N : ℕ} (m : Parser N) (base : ℕ) where
   abbrev inside : Parser N
   inside = checked_at m (skipped_continuation m.continuation) (impl_path_state m.state)
 
-  abbrev begins : ReadsImplPath m.source.symbol.now (form_of m.source) m.stack (checkpoint_of m) m.looks (impl_path_checkpoint (checkpoint_of m)) m.stack m.looks
-  begins = own_reads m.source.symbol.now (form_of m.source) m.looks (checkpoint_of m) refl
+  abbrev begins : ReadsImplPath m.source.symbol.now (source_form m.source) m.stack (checkpoint_of m) m.looks (impl_path_checkpoint (checkpoint_of m)) m.stack m.looks
+  begins = own_reads m.source.symbol.now (source_form m.source) m.looks (checkpoint_of m) refl
 
   pub skip_begins : is_skipped m.source.fold_arguments m.continuation ≡ true → base ≡ length m.stack → IsValid m → UnfinishedIsValid 0 (Ok (Some (left.ImplPath base (checkpoint_of m)))) inside
   skip_begins e h v = (m.looks, record { below = m.stack; height = sym h; skips = e; valid = v; reads = begins }, own_stands m.source.fold_arguments e refl v, omega arith)

@@ -8,7 +8,7 @@ use Rattle.demangle_v0_tokens.specs.declared.output.Output.{Ghosts}
 use Rattle.demangle_v0_tokens.specs.declared.token.Token.{Token}
 use Rattle.demangle_sink.specs.declared.SinkRefused.{SinkRefused}
 use Rattle.demangle_v0.specs.Loops.{StepDone, ValidUnfinished}
-use Rattle.demangle_v0.specs.Parsers.{form_of, UnfinishedIsValid, Same, PerformedRest, Performed, Advanced, AdvancedRest, AdvancedWithoutOutput, AdvancedUnfolded, unused_output, env_of, checkpoint_of}
+use Rattle.demangle_v0.specs.Parsers.{source_form, UnfinishedIsValid, Same, PerformedRest, Performed, Advanced, AdvancedRest, AdvancedWithoutOutput, AdvancedUnfolded, unused_output, env_of, checkpoint_of}
 use Rattle.demangle_v0.specs.Steps.{StepResult, Performs, Emits, StepPart, Machine, env, machine}
 use Rattle.demangle_v0.specs.declared.parser.Continuation.{Continuation}
 use Rattle.demangle_v0.specs.declared.parser.State.{State}
@@ -69,7 +69,7 @@ does_trace output b h v part s t stack now n m r d = record {
 
 pub advanced : {N : ℕ} {V : Type 0} (output : Ghosts V) (v : V) (p : Continuation) {m k : Parser N} {r : Result Continuation StepError} → Advanced p m r k → Performed output p m v r k v
 advanced output v p {m} {k} {r} d = let x = d output.is_printed in record {
-  does = does_trace output m.source.symbol.now (form_of m.source) v _ m.state k.state m.stack k.stack m.looks k.looks r x.does;
+  does = does_trace output m.source.symbol.now (source_form m.source) v _ m.state k.state m.stack k.stack m.looks k.looks r x.does;
   same = x.same;
 }
 
@@ -80,14 +80,14 @@ advanced_without_output output v p {m} {k} {r} q x = go output.is_printed refl
     go : (b : Bool) → output.is_printed ≡ b → Performed output p m v r k v
     go true e = absurd (false≢true (q e))
     go false e = record {
-      does = does_trace output m.source.symbol.now (form_of m.source) v _ m.state k.state m.stack k.stack m.looks k.looks r (rw e x.does);
+      does = does_trace output m.source.symbol.now (source_form m.source) v _ m.state k.state m.stack k.stack m.looks k.looks r (rw e x.does);
       same = x.same;
     }
 
 -- at an argument that is not folded
 pub advanced_unfolded : {N : ℕ} {V : Type 0} (output : Ghosts V) (v : V) (is_first : Bool) (p : Continuation) {m k : Parser N} {r : Result Continuation StepError} → is_first && (output.is_printed && m.source.fold_arguments) ≡ false → AdvancedUnfolded is_first p m r k → Performed output p m v r k v
 advanced_unfolded output v is_first p {m} {k} {r} h d = let x = d output.is_printed h in record {
-  does = does_trace output m.source.symbol.now (form_of m.source) v _ m.state k.state m.stack k.stack m.looks k.looks r x.does;
+  does = does_trace output m.source.symbol.now (source_form m.source) v _ m.state k.state m.stack k.stack m.looks k.looks r x.does;
   same = x.same;
 }
 
@@ -97,7 +97,7 @@ unless_both false y h = refl
 
 pub advanced_rest : {N : ℕ} {V : Type 0} (output : Ghosts V) (v : V) (items : Items) (words weight above : ℕ) {m k : Parser N} {r : Result Continuation StepError} → AdvancedRest items words weight above m r k → PerformedRest output items words weight above m v r k v
 advanced_rest output v items words weight above {m} {k} {r} d = let x = d output.is_printed in record {
-  does = does_trace output m.source.symbol.now (form_of m.source) v _ m.state k.state m.stack k.stack m.looks k.looks r x.does;
+  does = does_trace output m.source.symbol.now (source_form m.source) v _ m.state k.state m.stack k.stack m.looks k.looks r x.does;
   same = x.same;
 }
 
@@ -106,5 +106,5 @@ pub stepped_as : {N : ℕ} {V : Type 0} (output : Ghosts V) (m k : Parser N) {p 
 stepped_as output m k (e, h, f) d = rw (← e, ← h, ← f) d
 
 -- The rest that is left to print, for a parser of the same source.
-pub left_as : {N : ℕ} (n : ℕ) (m k : Parser N) (r : Result (Option Unfinished) SinkRefused) → Same m k → ValidUnfinished m.source.symbol.now (form_of m.source) n r (checkpoint_of k) k.stack k.looks → UnfinishedIsValid n r k
+pub left_as : {N : ℕ} (n : ℕ) (m k : Parser N) (r : Result (Option Unfinished) SinkRefused) → Same m k → ValidUnfinished m.source.symbol.now (source_form m.source) n r (checkpoint_of k) k.stack k.looks → UnfinishedIsValid n r k
 left_as n m k r (e, h, f) d = rw (e, h, f) d

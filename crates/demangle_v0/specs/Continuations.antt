@@ -5,7 +5,7 @@ use Prim.Native.Char.{code}
 use Rattle.demangle_symbol.specs.Digits.{is_byte}
 use Rattle.demangle_symbol.specs.Primitives.{some_or}
 use Rattle.demangle_v0_grammar.specs.Items.{Items, a_constant, a_path, a_pattern, a_type, bindings, byte, child, done, dyn_trait, identifier, if_ok, integer, invalid, leave_open, lifetime, next, skip, unit, until_end}
-use Rattle.demangle_v0_grammar.specs.Table.{argument, arguments, at_end, binding_value, constant_inside, field, function, in_binder, in_namespace, integer_constant, list, more, print_if, print_name, print_str, string, tuple, type_inside, type_tagged, variant}
+use Rattle.demangle_v0_grammar.specs.Table.{argument, arguments, at_end, binding_value, constant_inside, field, function, in_binder, in_namespace, integer_constant, list, more, parameters, print_if, print_name, print_str, returns, string, tuple, type_inside, type_tagged, variant}
 use Rattle.demangle_v0_grammar.specs.Reading.{Place}
 use Rattle.demangle_v0_tokens.specs.Tags.{lifetime_before}
 use Rattle.demangle_v0_tokens.specs.declared.token.Token.{Token}
@@ -14,10 +14,6 @@ use Rattle.demangle_v0.specs.declared.parser.Continuation.{Continuation}
 use Rattle.demangle_v0.specs.declared.parser.Continuation.TheVariants as continuation
 
 -- The remaining grammar.
-
--- the return type of a function
-abbrev pub returns : Items
-returns = next (code "u") done (print_str " -> " type_inside)
 
 -- the bindings of a dyn trait, then the remaining dyn traits; `o` says whether the `<` is open
 abbrev pub bindings_left : Bool → Items
@@ -85,7 +81,7 @@ spec_of continuation.Mut v n = spec_of_rest max_primitives 2 2 (print_str "mut "
 spec_of continuation.Const v n = spec_of_rest max_primitives 2 2 (print_str "const " type_inside)
 spec_of continuation.PatternIs v n = spec_of_rest max_primitives 2 2 (print_str " is " (child a_pattern false done))
 spec_of continuation.FunctionQualifiers v n = spec_of_rest 4 5 2 (next (code "U") (function true) (function false))
-spec_of continuation.OpenParameters v n = spec_of_rest 0 4 2 (print_str "fn(" (list ", " type_inside (print_str ")" returns)))
+spec_of continuation.OpenParameters v n = spec_of_rest 0 4 2 parameters
 spec_of continuation.FirstParameter v n = spec_of_rest max_primitives 3 2 (list ", " type_inside (print_str ")" returns))
 spec_of continuation.NextParameter v n = spec_of_rest max_primitives 3 2 (more ", " type_inside (print_str ")" returns))
 spec_of continuation.Returns v n = spec_of_rest max_primitives 2 2 returns

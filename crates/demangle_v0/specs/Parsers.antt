@@ -29,8 +29,8 @@ use Rattle.demangle_v0.specs.declared.parser.steps.Checkpoint.{Checkpoint}
 use Rattle.demangle_v0.specs.declared.printer.Unfinished.{Unfinished}
 
 -- the form in which a parser prints
-abbrev pub form_of : Source → Form
-form_of s = record { include_hash = s.include_hash; fold_arguments = s.fold_arguments }
+abbrev pub source_form : Source → Form
+source_form s = record { include_hash = s.include_hash; fold_arguments = s.fold_arguments }
 
 -- Changes to a parser.
 
@@ -88,7 +88,7 @@ emptied m = record { source = m.source; continuation = m.continuation; state = m
 -- The effect of a continuation.
 
 abbrev pub env_of : {N : ℕ} {V : Type 0} → Ghosts V → Parser N → Env V
-env_of output m = env output m.source.symbol.now (form_of m.source)
+env_of output m = env output m.source.symbol.now (source_form m.source)
 
 abbrev pub machine_of : {N : ℕ} {V : Type 0} → Parser N → V → Machine V
 machine_of m v = machine m.state m.stack v m.looks
@@ -119,7 +119,7 @@ CanPrint output m v = CanEmit (env_of output m) m.state v
 -- the effect of a back reference to a production that starts with this continuation
 abbrev pub Followed : {N : ℕ} {V : Type 0} → Ghosts V → Continuation → Parser N → V → Result Continuation StepError → Parser N → Type 0
 Followed output p m v result k =
-    (closed : Bool) (kind : Kind) (value : Bool) → IsProduction m.source.symbol.now (form_of m.source) p m.state.in_value m.state.letter m.state.lifetimes closed kind value
+    (closed : Bool) (kind : Kind) (value : Bool) → IsProduction m.source.symbol.now (source_form m.source) p m.state.in_value m.state.letter m.state.lifetimes closed kind value
     → PerformsPart output (target_part (env_of output m) closed kind value m.state) m v result k v
 
 -- An output that never receives a token, whether it prints or not.
@@ -156,31 +156,31 @@ Recounted m k = k ≡ looked m k.looks
 
 -- the remaining trace, without output
 abbrev pub trace_without_output : {N : ℕ} → Parser N → Trace
-trace_without_output m = remaining_trace m.source.symbol.now (form_of m.source) false m.continuation m.state m.stack
+trace_without_output m = remaining_trace m.source.symbol.now (source_form m.source) false m.continuation m.state m.stack
 
 -- without output, `m` is parsed until it stops at `k`, above the lowest `base` frames
 abbrev pub ReadSteps : {N : ℕ} → ℕ → Parser N → ReadOutcome → Parser N → Type 0
 ReadSteps base m result k = (below above : List Frame) → m.stack ≡ below ++ above → length below ≡ base → AllInner above
-    → ReadDone (no_output_env m.source.symbol.now (form_of m.source)) below m.continuation (no_output_machine m.state above m.looks) result k.continuation (no_output_machine k.state k.stack k.looks)
+    → ReadDone (no_output_env m.source.symbol.now (source_form m.source)) below m.continuation (no_output_machine m.state above m.looks) result k.continuation (no_output_machine k.state k.stack k.looks)
 
 -- the part that is not printed was read to its end
 abbrev pub SkipsOver : {N : ℕ} → Parser N → Parser N → Type 0
-SkipsOver m k = Skipped m.source.symbol.now (form_of m.source) m.continuation m.state m.stack m.looks k.continuation k.state k.stack k.looks
+SkipsOver m k = Skipped m.source.symbol.now (source_form m.source) m.continuation m.state m.stack m.looks k.continuation k.state k.stack k.looks
 
 -- the impl path was read until the stack was full
 abbrev pub SkipsFull : {N : ℕ} → Parser N → Unfinished → Parser N → Type 0
-SkipsFull {N} m x k = StopsInImplPath m.source.symbol.now (form_of m.source) (checkpoint_of m) m.stack m.looks x N (checkpoint_of k) k.stack k.looks
+SkipsFull {N} m x k = StopsInImplPath m.source.symbol.now (source_form m.source) (checkpoint_of m) m.stack m.looks x N (checkpoint_of k) k.stack k.looks
 
 -- the same for the rest of an impl path that was read in part
 abbrev pub FinishesSkip : {N : ℕ} → Parser N → Unfinished → Option Unfinished → Parser N → Type 0
-FinishesSkip {N} m x result k = Finishes m.source.symbol.now (form_of m.source) N x (checkpoint_of m) m.stack m.looks result (checkpoint_of k) k.stack k.looks
+FinishesSkip {N} m x result k = Finishes m.source.symbol.now (source_form m.source) N x (checkpoint_of m) m.stack m.looks result (checkpoint_of k) k.stack k.looks
 
 abbrev pub printing_of : {N : ℕ} {S : Type 0} → Sinks S → Parser N → Env (SizeLimitedFmtAdapter S)
-printing_of sink m = printing sink m.source.symbol.now (form_of m.source)
+printing_of sink m = printing sink m.source.symbol.now (source_form m.source)
 
 -- the unfinished part can be printed
 abbrev pub UnfinishedIsValid : {N : ℕ} → ℕ → Result (Option Unfinished) SinkRefused → Parser N → Type 0
-UnfinishedIsValid n result m = ValidUnfinished m.source.symbol.now (form_of m.source) n result (checkpoint_of m) m.stack m.looks
+UnfinishedIsValid n result m = ValidUnfinished m.source.symbol.now (source_form m.source) n result (checkpoint_of m) m.stack m.looks
 
 -- the looks that are made in any case: by the next step, and by the unfinished part
 abbrev pub first_looks_of : {N : ℕ} → Parser N → ℕ

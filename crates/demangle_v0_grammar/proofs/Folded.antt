@@ -1,13 +1,12 @@
 -- Generic arguments, folded and unfolded.
 use Rattle.std.specs.Prelude.{ℕ, ◌&&◌, codes}
-use Rattle.std.proofs.Common.{◌≡◌, Bool, true, false, List, [], ◌∷◌, ◌++◌, refl, sym, ap, ◌∙◌}
+use Rattle.std.proofs.Common.{◌≡◌, Bool, true, false, List, [], ◌∷◌, sym, ap}
 use Rattle.std.proofs.lemmas.List.{append-nil}
-use Rattle.demangle_v0_grammar.specs.Traces.{Trace, of, events, and_then, with_looks, with_texts, context_at}
-use Rattle.demangle_v0_grammar.specs.Items.{Items, done, print, leave_open}
+use Rattle.demangle_v0_grammar.specs.Traces.{Trace, of, events, with_looks, with_texts, context_at}
+use Rattle.demangle_v0_grammar.specs.Items.{Items, done, leave_open}
 use Rattle.demangle_v0_grammar.specs.Table.{print_str, list, argument, arguments}
-use Rattle.demangle_v0_grammar.specs.Reading.{Place, Outcome, Context, parse}
+use Rattle.demangle_v0_grammar.specs.Reading.{Place, Context, parse}
 use Rattle.demangle_v0_grammar.proofs.SequencedItems.{extended_reads}
-use Rattle.demangle_v0_grammar.proofs.ListTraces.{trace_as}
 use Rattle.demangle_v0_grammar.proofs.SkippedPaths.{allowances, silent_allowed}
 
 -- unfolded arguments are a list

@@ -10,7 +10,7 @@ use Rattle.demangle_symbol.specs.Names.{name_pieces, is_empty, is_empty_name}
 use Rattle.demangle_symbol.specs.Literals.{literal, string_of}
 use Rattle.demangle_v0_grammar.specs.Items.{Text, Kind, a_path, a_type, a_constant, a_pattern, a_trait_path, Items, done, invalid, print, print_plain, byte, namespace, integer, optional, identifier, nibbles, peek, next, if_ok, until_end, raise, unit, child, skip, folded, target, lifetime, binder, leave_open, dyn_trait, bindings}
 use Rattle.demangle_v0_grammar.specs.Table.{at_end, more}
-use Rattle.demangle_v0_grammar.specs.Table.{variant, type_inside, constant_inside, print_if, extern, binding_value, type_tagged, braces, integer_constant, string, truth, character, argument, arguments, list, tuple, print_str, in_special, in_namespace, path_rows, pattern_rows, variant_rows, constant_rows, field, function, signature, items, type_rows, row_of, after_tag, row_text, basic_types, type_after_tag, print_all, is_among}
+use Rattle.demangle_v0_grammar.specs.Table.{variant, type_inside, constant_inside, print_if, extern, binding_value, type_tagged, braces, integer_constant, string, print_bool, print_char, argument, arguments, list, tuple, print_str, in_special, in_namespace, path_rows, pattern_rows, variant_rows, constant_rows, field, function, parameters, print_qualifiers, items, type_rows, row_of, after_tag, row_text, basic_types, type_after_tag, print_all, is_among}
 use Rattle.demangle_v0_grammar.proofs.ItemBudgets.{start, rank, is_below, is_closed, is_some_text, Fits}
 
 abbrev Cheap : ℕ → ℕ → Bool → Items → Type 0
@@ -154,8 +154,8 @@ path_cheap value =
 
 -- Types.
 
-signature_cheap : (unsafe : Bool) (abi : List Text) (k : ℕ) → 7 ≤ k → Cheap 8 k true (signature unsafe abi)
-signature_cheap unsafe abi k l =
+qualifiers_cheap : (unsafe : Bool) (abi : List Text) (k : ℕ) → 7 ≤ k → Cheap 8 k true (print_qualifiers unsafe abi parameters)
+qualifiers_cheap unsafe abi k l =
     let last = print_str ")" (next (code "u") done (print_str " -> " type_inside)) in
     let inner : Cheap 8 k true (print_all abi (print_str "fn(" (list ", " type_inside last))) =
     all_cheap 8 k true abi (print_str "fn(" (list ", " type_inside last)) (list_fits true 2 8 k ", " type_inside last refl l (typed_cheap 7 6 (omega arith) (omega arith)) (omega arith, omega arith, (omega arith, refl, omega arith))) in
@@ -166,10 +166,10 @@ function_cheap unsafe k l = (
   omega (arith, l),
   (
     omega arith,
-    signature_cheap unsafe (extern (codes "C")) (k + 31 + 31) (omega arith),
-    (λ a. cond_fits (Cheap 8 (k + 31 - 1 + 24) true) (is_empty a.ascii) _ _ tt (cond_fits (Cheap 8 (k + 31 - 1 + 24) true) (is_empty a.punycode) _ _ (signature_cheap unsafe (extern a.ascii) (k + 31 - 1 + 24) (omega arith)) tt)),
+    qualifiers_cheap unsafe (extern (codes "C")) (k + 31 + 31) (omega arith),
+    (λ a. cond_fits (Cheap 8 (k + 31 - 1 + 24) true) (is_empty a.ascii) _ _ tt (cond_fits (Cheap 8 (k + 31 - 1 + 24) true) (is_empty a.punycode) _ _ (qualifiers_cheap unsafe (extern a.ascii) (k + 31 - 1 + 24) (omega arith)) tt)),
   ),
-  signature_cheap unsafe [] (k - 1) (omega (arith, l)),
+  qualifiers_cheap unsafe [] (k - 1) (omega (arith, l)),
 )
 
 types_cheap : (tag : ℕ) → AllRows (Cheap 8 24 true) (type_rows tag)
@@ -229,21 +229,21 @@ number_cheap tag k h =
 string_cheap : (k : ℕ) → Cheap 8 k true string
 string_cheap k h = some_fits (Cheap 8 (k + 24) true) invalid (string_of h) _ tt (λ cs. all_cheap 8 (k + 24) true (literal (code "\"") cs) done (omega arith))
 
-truth_cheap : (o : Option ℕ) → Cheap 8 48 true (truth o)
-truth_cheap None = tt
-truth_cheap (Some n) = cond_fits (Cheap 8 48 true) (n == 0) _ _ (omega arith) (cond_fits (Cheap 8 48 true) (n == 1) _ _ (omega arith) tt)
+bool_cheap : (o : Option ℕ) → Cheap 8 48 true (print_bool done o)
+bool_cheap None = tt
+bool_cheap (Some n) = cond_fits (Cheap 8 48 true) (n == 0) _ _ (omega arith) (cond_fits (Cheap 8 48 true) (n == 1) _ _ (omega arith) tt)
 
-character_cheap : (o : Option ℕ) → Cheap 8 48 true (character o)
-character_cheap None = tt
-character_cheap (Some c) = cond_fits (Cheap 8 48 true) (scalar c) _ _ (all_cheap 8 48 true (literal (code "'") (c ∷ [])) done (omega arith)) tt
+char_cheap : (o : Option ℕ) → Cheap 8 48 true (print_char done o)
+char_cheap None = tt
+char_cheap (Some c) = cond_fits (Cheap 8 48 true) (scalar c) _ _ (all_cheap 8 48 true (literal (code "'") (c ∷ [])) done (omega arith)) tt
 
 constants_cheap : (value : Bool) (tag : ℕ) → AllRows (Cheap 8 24 true) (constant_rows value tag)
 constants_cheap value tag =
     omega arith
     ▸ number_cheap tag 24
     ▸ (omega arith, number_cheap tag 55, number_cheap tag 23)
-    ▸ (λ h. truth_cheap (number_of h))
-    ▸ (λ h. character_cheap (number_of h))
+    ▸ (λ h. bool_cheap (number_of h))
+    ▸ (λ h. char_cheap (number_of h))
     ▸ braces_cheap 24 value (λ p. print_str "*" (unit string p)) (λ p x. (8, string_cheap 24, x))
     ▸ (omega arith, string_cheap 55, braces_cheap 23 value (λ p. print_str "&" (child a_constant true p)) (λ p x. (omega arith, refl, x)))
     ▸ braces_cheap 24 value (λ p. print_str "&" (print_str "mut " (child a_constant true p))) (λ p x. (omega arith, refl, x))

@@ -118,18 +118,30 @@ abbrev pub hyphenated_abi : List ℕ → List ℕ → List Text
 hyphenated_abi part [] = part ∷ []
 hyphenated_abi part (b ∷ bs) = if b == code "_" then part ∷ codes "-" ∷ hyphenated_abi [] bs else hyphenated_abi (part ++ b ∷ []) bs
 
-abbrev pub signature : Bool → List Text → Items
-signature unsafe abi = print_if unsafe "unsafe " (print_all abi (print_str "fn(" (list ", " type_inside (print_str ")"
-    (next (code "u") done (print_str " -> " type_inside))))))
-
 abbrev pub extern : List ℕ → List Text
 extern abi = codes "extern \"" ∷ hyphenated_abi [] abi ++ codes "\" " ∷ []
 
+-- the text of a function type before its parameters
+abbrev pub print_qualifiers : Bool → List Text → Items → Items
+print_qualifiers unsafe abi p = print_if unsafe "unsafe " (print_all abi p)
+
+-- the ABI of a function type, after the `U` of an unsafe one, and then p
+abbrev pub function_qualifiers : Bool → Items → Items
+function_qualifiers unsafe p =
+    next (code "K") (next (code "C") (print_qualifiers unsafe (extern (codes "C")) p)
+    (identifier (λ a. if is_empty a.ascii then invalid else if is_empty a.punycode then print_qualifiers unsafe (extern a.ascii) p else invalid)))
+    (print_qualifiers unsafe [] p)
+
+-- the return type of a function type
+abbrev pub returns : Items
+returns = next (code "u") done (print_str " -> " type_inside)
+
+-- the parameters of a function type, and its return type
+abbrev pub parameters : Items
+parameters = print_str "fn(" (list ", " type_inside (print_str ")" returns))
+
 abbrev pub function : Bool → Items
-function unsafe =
-    next (code "K") (next (code "C") (signature unsafe (extern (codes "C")))
-    (identifier (λ a. if is_empty a.ascii then invalid else if is_empty a.punycode then signature unsafe (extern a.ascii) else invalid)))
-    (signature unsafe [])
+function unsafe = function_qualifiers unsafe parameters
 
 -- the value of a binding: a constant or a type
 abbrev pub binding_value : Items
@@ -196,13 +208,15 @@ number_pieces h p = some_or (print_str "0x" (print h p)) (number_of h) (λ n. pr
 abbrev pub integer_constant : ℕ → Items
 integer_constant tag = nibbles (λ h. number_pieces h (some_or done (row_text tag basic_types) (λ text. print_plain text done)))
 
-abbrev pub character : Option ℕ → Items
-character None = invalid
-character (Some c) = if scalar c then print_all (literal (code "'") (c ∷ [])) done else invalid
+-- a character, and then p
+abbrev pub print_char : Items → Option ℕ → Items
+print_char p None = invalid
+print_char p (Some c) = if scalar c then print_all (literal (code "'") (c ∷ [])) p else invalid
 
-abbrev pub truth : Option ℕ → Items
-truth None = invalid
-truth (Some n) = if n == 0 then print_str "false" done else if n == 1 then print_str "true" done else invalid
+-- a bool, and then p
+abbrev pub print_bool : Items → Option ℕ → Items
+print_bool p None = invalid
+print_bool p (Some n) = if n == 0 then print_str "false" p else if n == 1 then print_str "true" p else invalid
 
 abbrev pub string : Items
 string = nibbles (λ h. some_or invalid (string_of h) (λ cs. print_all (literal (code "\"") cs) done))
@@ -225,8 +239,8 @@ constant_rows value tag =
     ("p", print_str "_" done)
     ∷ ("htmyoj", integer_constant tag)
     ∷ ("aslxni", next (code "n") (print_str "-" (integer_constant tag)) (integer_constant tag))
-    ∷ ("b", nibbles (λ h. truth (number_of h)))
-    ∷ ("c", nibbles (λ h. character (number_of h)))
+    ∷ ("b", nibbles (λ h. print_bool done (number_of h)))
+    ∷ ("c", nibbles (λ h. print_char done (number_of h)))
     ∷ ("e", braces value (λ p. print_str "*" (unit string p)))
     ∷ ("R", next (code "e") string (braces value (λ p. print_str "&" (child a_constant true p))))
     ∷ ("Q", braces value (λ p. print_str "&" (print_str "mut " (child a_constant true p))))

@@ -9,10 +9,10 @@ use Rattle.demangle_symbol.specs.Primitives.{Read, Name, only_if, some_or, name_
 use Rattle.demangle_symbol.specs.Names.{name_pieces, is_empty_name, is_empty}
 use Rattle.demangle_symbol.specs.Literals.{literal, string_of}
 use Rattle.demangle_v0_grammar.specs.Items.{Text, Items, done, invalid, print, print_plain, integer, optional, identifier, lifetime}
-use Rattle.demangle_v0_grammar.specs.Table.{print_str, print_all, print_name, in_special, in_namespace, path, extern, row_text, basic_types, number_pieces}
+use Rattle.demangle_v0_grammar.specs.Table.{print_str, print_all, print_name, print_bool, print_char, print_qualifiers, function_qualifiers, in_special, in_namespace, path, extern, row_text, basic_types, number_pieces}
 use Rattle.demangle_v0_grammar.specs.Reading.{Tree, nothing, piece, looked, invalid_syntax, Place, Outcome, Context, failed_with, with_tree, at_place, followed_by, parse, primitive_outcome, byte_choice, letter_of, all_pieces, lifetime_at}
-use Rattle.demangle_v0_tokens.specs.Texts.{text, token_items, print_qualifiers, function_qualifiers, print_bool, print_char}
-use Rattle.demangle_v0_grammar.specs.Traces.{prints_text, events, Trace, of, empty_trace, with_looks, with_texts, context_at}
+use Rattle.demangle_v0_tokens.specs.Texts.{text, token_items}
+use Rattle.demangle_v0_grammar.specs.Traces.{Trace, of, empty_trace, with_looks, with_texts, context_at}
 use Rattle.demangle_symbol.specs.Idents.{ident_parts, ident_at}
 use Rattle.demangle_symbol.specs.Nibbles.{hex_at}
 use Rattle.demangle_v0_tokens.specs.Tokens.{bytes_in, nested_texts, number_texts, if_plain, texts_of, TokenSpec, token_read, invalid_token, after_primitive, byte_group, checked_lifetime, abi_named, abi_group, bool_token, character_token, literal_token, named_group, crate_group, nested_group, token_spec}
@@ -27,7 +27,7 @@ use Rattle.demangle_v0_tokens.specs.declared.token.Token.TheVariants.{Nothing, F
 use Rattle.demangle_v0_tokens.specs.declared.read.TokenOutcome.{TokenOutcome}
 use Rattle.demangle_v0_tokens.specs.declared.read.TokenOutcome.TheVariants.{Parsed, NotParsed}
 use Rattle.demangle_v0_grammar.proofs.TypeTraces.{says_all, lifetime_named, lifetime_wrong}
-use Rattle.demangle_v0_grammar.proofs.TraceLemmas.{handing_both, said_all_append, pieces_trace}
+use Rattle.demangle_v0_grammar.proofs.TraceLemmas.{handing_both}
 
 -- a token, and the items after it unless it ends the production
 abbrev pub token_then : List ℕ → Bool → Bool → TokenOutcome → (Place → Trace) → Trace

@@ -1,18 +1,9 @@
 -- Internal: no public contract cites this.
 -- Back references as they are read.
-use Rattle.std.specs.Prelude.{ℕ, zero, suc, ◌+◌, ◌-◌, ◌*◌, ◌^◌, ◌≤◌, ◌<◌, Some, None, List, [], ◌∷◌, length, IsSome}
+use Rattle.std.specs.Prelude.{ℕ, zero, suc, ◌+◌, ◌-◌, ◌*◌, ◌<◌, Some, None, List, [], ◌∷◌, length}
 use Rattle.demangle_symbol.specs.Primitives.{Read, backref_at}
-use Rattle.demangle_symbol.specs.Idents.{IsIdentWithin}
-use Rattle.demangle_symbol.specs.Nibbles.{HexPart}
-use Rattle.demangle_symbol.specs.Literals.{string_of}
 use Rattle.demangle_v0_grammar.specs.Reading.{Place}
-use Rattle.demangle_v0_tokens.specs.Tokens.{bytes_in}
-use Rattle.demangle_symbol.specs.declared.cursor.Part.{Part}
 use Rattle.demangle_v0_tokens.specs.declared.fixed_texts.FixedText.TheVariants as fixed
-use Rattle.demangle_v0_tokens.specs.declared.token.Abi.{Abi}
-use Rattle.demangle_v0_tokens.specs.declared.token.Abi.TheVariants as abi
-use Rattle.demangle_v0_tokens.specs.declared.token.Token.{Token}
-use Rattle.demangle_v0_tokens.specs.declared.token.Token.TheVariants.{CrateName, FieldName, NestedName, FunctionQualifiers, Number, StrLiteral, Binder, BindingName}
 use Rattle.demangle_v0_tokens.specs.declared.backref.BackrefOutcome.{BackrefOutcome}
 use Rattle.demangle_v0_tokens.specs.declared.backref.BackrefOutcome.TheVariants.{NotFollowed, Target}
 

@@ -3,8 +3,8 @@
 use Rattle.std.specs.Prelude.{ℕ, Bool, true, false, if◌then◌else◌, ◌==◌, List, [], ◌∷◌}
 use Prim.Native.Char.{code}
 use Prim.Native.String.{String}
-use Rattle.demangle_v0_grammar.specs.Items.{Items, a_type, a_constant, a_pattern, done, invalid, integer, next, unit, child, target, lifetime, dyn_trait}
-use Rattle.demangle_v0_grammar.specs.Table.{path, print_str, print_if, list, tuple, type_inside, in_binder, function, binding_value, constant, integer_constant, variant, pattern_of}
+use Rattle.demangle_v0_grammar.specs.Items.{Items, done, invalid, integer, next, lifetime}
+use Rattle.demangle_v0_grammar.specs.Table.{row_of, path, print_str, print_if, type_inside, type_rows, constant, integer_constant, variant, pattern_of}
 use Rattle.demangle_v0_tokens.specs.declared.tags.PathKind.{PathKind}
 use Rattle.demangle_v0_tokens.specs.declared.tags.PathKind.TheVariants as kind
 use Rattle.demangle_v0_tokens.specs.declared.tags.TypeKind.{TypeKind}
@@ -48,18 +48,21 @@ lifetime_before rest = integer (λ k. if k == 0 then rest else lifetime k (print
 abbrev pub reference_to : Bool → Items
 reference_to is_mut = let rest = print_if is_mut "mut " type_inside in print_str "&" (next (code "L") (lifetime_before rest) rest)
 
+-- the items in the row of a type's tag
+abbrev pub type_row : ℕ → Items
+type_row tag = row_of tag invalid (type_rows tag)
+
 -- the items after the tag of a constructed type
 abbrev pub constructed_of : ConstructedType → Items
-constructed_of constructed.ConstPointer = print_str "*" (print_str "const " type_inside)
-constructed_of constructed.MutPointer = print_str "*" (print_str "mut " type_inside)
-constructed_of constructed.Array = print_str "[" (child a_type false (print_str "; " (child a_constant true (print_str "]" done))))
-constructed_of constructed.Slice = print_str "[" (child a_type false (print_str "]" done))
-constructed_of constructed.Tuple = print_str "(" (tuple type_inside (print_str ")" done))
-constructed_of constructed.Function = in_binder (next (code "U") (function true) (function false))
-constructed_of constructed.Dyn = print_str "dyn " (unit (in_binder (list " + " (dyn_trait binding_value) done))
-    (next (code "L") (integer (λ k. if k == 0 then done else print_str " + " (lifetime k done))) invalid))
-constructed_of constructed.Backref = target a_type false
-constructed_of constructed.Pattern = child a_type false (print_str " is " (child a_pattern false done))
+constructed_of constructed.ConstPointer = type_row (code "P")
+constructed_of constructed.MutPointer = type_row (code "O")
+constructed_of constructed.Array = type_row (code "A")
+constructed_of constructed.Slice = type_row (code "S")
+constructed_of constructed.Tuple = type_row (code "T")
+constructed_of constructed.Function = type_row (code "F")
+constructed_of constructed.Dyn = type_row (code "D")
+constructed_of constructed.Backref = type_row (code "B")
+constructed_of constructed.Pattern = type_row (code "W")
 
 abbrev pub type_of : TypeKind → Items
 type_of type_kind.SharedReference = reference_to false

@@ -1,14 +1,13 @@
 -- Internal: no public contract cites this.
 -- The fixed texts, the search for a tag in a list of rows, and the items of the table that each kind of token reads.
-use Rattle.std.specs.Prelude.{ℕ, Bool, true, false, if◌then◌else◌, ◌==◌, Option, Some, None, List, [], ◌∷◌, codes}
+use Rattle.std.specs.Prelude.{ℕ, true, false, if◌then◌else◌, ◌==◌, Option, Some, None, List, [], ◌∷◌, codes}
 use Prim.Native.Char.{code}
 use Prim.Native.String.{String}
 use Rattle.demangle_symbol.specs.Primitives.{some_or}
-use Rattle.demangle_symbol.specs.Names.{is_empty}
 use Rattle.demangle_symbol.specs.Primitives.{number_of}
 use Rattle.demangle_symbol.specs.Literals.{literal, string_of}
 use Rattle.demangle_v0_grammar.specs.Items.{Text, Items, invalid, print_plain, integer, identifier, nibbles, next, lifetime}
-use Rattle.demangle_v0_grammar.specs.Table.{is_among, print_str, print_if, print_all, print_name, disambiguator, extern, row_text, basic_types, number_pieces}
+use Rattle.demangle_v0_grammar.specs.Table.{is_among, print_str, print_all, print_name, print_bool, print_char, disambiguator, function_qualifiers, row_text, basic_types, number_pieces}
 use Rattle.demangle_v0_tokens.specs.declared.fixed_texts.FixedText.{FixedText}
 use Rattle.demangle_v0_tokens.specs.declared.fixed_texts.FixedText.TheVariants as fixed
 use Rattle.demangle_v0_tokens.specs.declared.token.TokenKind.{TokenKind}
@@ -78,24 +77,6 @@ found b (r ∷ rs) = if is_among b (codes r.0) then Some r.1 else found b rs
 
 abbrev pub basic_type_texts : List (String × FixedText)
 basic_type_texts = ("b", fixed.Bool) ∷ ("c", fixed.Char) ∷ ("e", fixed.Str) ∷ ("u", fixed.Unit) ∷ ("a", fixed.I8) ∷ ("s", fixed.I16) ∷ ("l", fixed.I32) ∷ ("x", fixed.I64) ∷ ("n", fixed.I128) ∷ ("i", fixed.Isize) ∷ ("h", fixed.U8) ∷ ("t", fixed.U16) ∷ ("m", fixed.U32) ∷ ("y", fixed.U64) ∷ ("o", fixed.U128) ∷ ("j", fixed.Usize) ∷ ("f", fixed.F32) ∷ ("d", fixed.F64) ∷ ("z", fixed.Never) ∷ ("p", fixed.Placeholder) ∷ ("v", fixed.Ellipsis) ∷ []
-
--- the text of a function before its parameters
-abbrev pub print_qualifiers : Bool → List Text → Items → Items
-print_qualifiers unsafe abi p = print_if unsafe "unsafe " (print_all abi p)
-
-abbrev pub function_qualifiers : Bool → Items → Items
-function_qualifiers unsafe p =
-    next (code "K") (next (code "C") (print_qualifiers unsafe (extern (codes "C")) p)
-    (identifier (λ a. if is_empty a.ascii then invalid else if is_empty a.punycode then print_qualifiers unsafe (extern a.ascii) p else invalid)))
-    (print_qualifiers unsafe [] p)
-
-abbrev pub print_bool : Items → Option ℕ → Items
-print_bool p None = invalid
-print_bool p (Some n) = if n == 0 then print_str "false" p else if n == 1 then print_str "true" p else invalid
-
-abbrev pub print_char : Items → Option ℕ → Items
-print_char p None = invalid
-print_char p (Some c) = if lib.Utf8.scalar c then print_all (literal (code "'") (c ∷ [])) p else invalid
 
 -- a token of this kind, and the items after it; a number has a tag
 abbrev pub token_items : TokenKind → ℕ → Items → Items

@@ -6,8 +6,8 @@ use Rattle.std.specs.List.{starts_with}
 use Rattle.std.specs.Str.Parse.{IsNumeral, digits_value, without_leading_plus}
 use Rattle.kodliwe.specs.declared.arguments.InputSource.{InputSource}
 use Rattle.kodliwe.specs.declared.arguments.InputSource.TheVariants.{Stdin, File, Symbols}
-use Rattle.kodliwe.specs.declared.arguments.Target.{Target as Named}
-use Rattle.kodliwe.specs.declared.arguments.Target.TheVariants as named
+use Rattle.kodliwe.specs.declared.arguments.Target.{Target}
+use Rattle.kodliwe.specs.declared.arguments.Target.TheVariants as targets
 use Rattle.kodliwe.specs.declared.arguments.Request.{Request}
 use Rattle.kodliwe.specs.declared.arguments.Command.{Command}
 use Rattle.kodliwe.specs.declared.arguments.Command.TheVariants.{Help, Version, Filter}
@@ -23,14 +23,14 @@ pub data InputPart : Type 0 where
   symbols : List ℕ → InputPart
 
 -- a place to write to: standard output, or a file
-pub data Target : Type 0 where
-  stdout : Target
-  a_file : List ℕ → Target
+pub data OutputTarget : Type 0 where
+  stdout : OutputTarget
+  a_file : List ℕ → OutputTarget
 
 -- The options that were read so far. `parts` is in reverse order: the last part comes first.
 pub record Options : Type 0 where
   pub parts : List InputPart
-  pub output : Option Target
+  pub output : Option OutputTarget
   pub keeps_hash : Bool
   pub folds : Bool
   pub limit : ℕ
@@ -67,9 +67,9 @@ IsInputPart path (file name) = (path ≢ codes "-") × (name ≡ path)
 IsInputPart path (symbols lines) = ⊥
 
 -- `-` as an output file is standard output
-abbrev pub IsTarget : List ℕ → Target → Type 0
-IsTarget path stdout = path ≡ codes "-"
-IsTarget path (a_file name) = (path ≢ codes "-") × (name ≡ path)
+abbrev pub IsOutputTarget : List ℕ → OutputTarget → Type 0
+IsOutputTarget path stdout = path ≡ codes "-"
+IsOutputTarget path (a_file name) = (path ≢ codes "-") × (name ≡ path)
 
 abbrev pub short_name : ValuedOption → List ℕ
 short_name Input = codes "-i"
@@ -99,7 +99,7 @@ IsNumber text = IsNumeral 10 (without_leading_plus text) × (digits_value 10 (wi
 -- the options after an option's value is read
 abbrev pub Sets : ValuedOption → List ℕ → Options → Options → Type 0
 Sets Input value old new = (part : InputPart) × IsInputPart value part × (new ≡ record old { parts = part ∷ old.parts })
-Sets Output value old new = (old.output ≡ None) × (target : Target) × IsTarget value target × (new ≡ record old { output = Some target })
+Sets Output value old new = (old.output ≡ None) × (target : OutputTarget) × IsOutputTarget value target × (new ≡ record old { output = Some target })
 Sets Limit value old new = IsNumber value × (new ≡ record old { limit = digits_value 10 (without_leading_plus value) })
 
 -- the value is an error: a second output, or not a number of bytes
@@ -167,9 +167,9 @@ input_part_of Stdin = stdin
 input_part_of (File path) = file path.now
 input_part_of (Symbols lines) = symbols lines.items
 
-abbrev pub output_target_of : Named → Target
-output_target_of named.Stdout = stdout
-output_target_of (named.File path) = a_file path.now
+abbrev pub output_target_of : Target → OutputTarget
+output_target_of targets.Stdout = stdout
+output_target_of (targets.File path) = a_file path.now
 
 abbrev pub options_of : Request → Options
 options_of request = record {

@@ -1,18 +1,16 @@
 //! Parses the command-line arguments.
-ghost use Rattle.std.specs.Prelude.{◌≡◌, ◌++◌, ◌∷◌, [], codes, true, false, nat_eq, map};
-ghost use Rattle.std.specs.Prelude.{None, Some, OnOk, IfOk, IfErr, IfSome, IfNone};
-ghost use Rattle.std.specs.List.{starts_with};
+ghost use Rattle.std.specs.Prelude.{◌≡◌, map};
+ghost use Rattle.std.specs.Prelude.{Some, IfOk, IfErr, IfSome};
 ghost use Rattle.std.specs.String.{string_bytes};
-ghost use Rattle.kodliwe.specs.CommandLine.{IsAlone, HasValue, IsNotOption, Sets, IsInvalidValue};
-ghost use Rattle.kodliwe.specs.CommandLine.{ParsesTo, anything, defaults, with_line};
+ghost use Rattle.kodliwe.specs.CommandLine.{ParsesTo, anything, defaults};
 ghost use Rattle.kodliwe.specs.CommandLine.{options_of, parsed_as, rejection_of, missing_value_error};
 ghost use Rattle.kodliwe.specs.OneArgument.{IsArgument, Accepts, Rejects, expected_of};
 
-use rustc_demangle::{demangle_bytes, run_start};
-use std::alloc::{AllocError, Global};
+mod kinds;
+mod request;
 
-/// The default limit on the bytes of a path.
-const LIMIT: usize = 1_000_000;
+use crate::arguments::kinds::classify;
+use std::alloc::{AllocError, Global};
 
 /// A text to filter, in the order of the arguments.
 #[derive(Drop)]
@@ -126,183 +124,7 @@ pub enum AfterArgument<'a> {
     Version,
 }
 
-/// Returns whether an argument is the option `short` or `long`, and the value if the argument
-/// includes it, as `-iFILE` or `--input=FILE`.
-fn option_value<'a>(argument: &'a str, short: &str, long: &str) -> Option<Option<&'a str>>
-    ensures none { IfNone result (IsNotOption short.now long.now argument.now) }
-    ensures alone { result ≡ Some None → IsAlone short.now long.now argument.now }
-    ensures value { IfSome result (λ within. IfSome within (λ value.
-        HasValue short.now long.now argument.now value.now)) }
-    ensures short { argument.now ≡ short.now → result ≡ Some None }
-    ensures long { argument.now ≡ long.now → result ≡ Some None }
-{
-    if argument == short || argument == long {
-        return Some(None);
-    }
-    if let Some(rest) = argument.strip_prefix(long) {
-        if let Some(value) = rest.strip_prefix("=") {
-            return Some(Some(value));
-        }
-    }
-    match argument.strip_prefix(short) {
-        Some(value) => Some(Some(value)),
-        None => None,
-    }
-}
-
-/// Returns the kind of an argument before `--`.
-fn classify(argument: &str) -> Argument<'_>
-    ensures is { IsArgument argument.now result }
-    ensures symbol { starts_with nat_eq argument.now (codes "-") ≡ false → result ≡ Argument.Symbol }
-    ensures hash { argument.now ≡ codes "--hash" → result ≡ Argument.Hash }
-    ensures f { argument.now ≡ codes "-f" → result ≡ Argument.Fold }
-    ensures fold { argument.now ≡ codes "--fold" → result ≡ Argument.Fold }
-    ensures end { argument.now ≡ codes "--" → result ≡ Argument.End }
-    ensures stdin { argument.now ≡ codes "-" → result ≡ Argument.Stdin }
-    ensures h { argument.now ≡ codes "-h" → result ≡ Argument.Help }
-    ensures help { argument.now ≡ codes "--help" → result ≡ Argument.Help }
-    ensures version { argument.now ≡ codes "--version" → result ≡ Argument.Version }
-    ensures input { argument.now ≡ codes "--input" → result ≡ Argument.Valued ValuedOption.Input None }
-{
-    if !argument.starts_with("-") {
-        return Argument::Symbol;
-    }
-    if argument == "-" {
-        return Argument::Stdin;
-    }
-    if argument == "--" {
-        return Argument::End;
-    }
-    if argument == "--hash" {
-        return Argument::Hash;
-    }
-    if argument == "-f" || argument == "--fold" {
-        return Argument::Fold;
-    }
-    if argument == "-h" || argument == "--help" {
-        return Argument::Help;
-    }
-    if argument == "-V" || argument == "--version" {
-        return Argument::Version;
-    }
-    if let Some(value) = option_value(argument, "-i", "--input") {
-        return Argument::Valued(ValuedOption::Input, value);
-    }
-    if let Some(value) = option_value(argument, "-o", "--output") {
-        return Argument::Valued(ValuedOption::Output, value);
-    }
-    if let Some(value) = option_value(argument, "-l", "--limit") {
-        return Argument::Valued(ValuedOption::Limit, value);
-    }
-    Argument::Unknown
-}
-
 impl<'a> Request<'a> {
-    /// Returns a request with the default options and nothing to filter.
-    fn new(alloc: Global) -> Request<'a>
-        ensures sources { result.sources.items ≡ [] }
-        ensures output { result.output ≡ None }
-        ensures hash { result.include_hash ≡ false }
-        ensures fold { result.fold_arguments ≡ false }
-        ensures limit { result.limit ≡ 1000000 }
-    {
-        Request {
-            sources: Vec::new(alloc),
-            output: None,
-            include_hash: false,
-            fold_arguments: false,
-            limit: LIMIT,
-            plain_argument: None,
-        }
-    }
-
-    /// Adds a symbol as a separate line. Stores it as `plain_argument` if it is the first that the
-    /// filter does not change. Fails if memory can't be allocated.
-    fn add_symbol(&mut self, alloc: Global, symbol: &'a str) -> Result<(), AllocError>
-        ensures { OnOk result (options_of self.new ≡ record (options_of self.old) {
-          parts = with_line symbol.now (options_of self.old).parts;
-        }) }
-    {
-        if self.plain_argument.is_none() && !has_symbol(alloc, symbol)? {
-            self.plain_argument = Some(symbol);
-        }
-        let mut lines = match self.sources.pop() {
-            Some(InputSource::Symbols(lines)) => lines,
-            Some(source) => {
-                self.sources.push(source)?;
-                Vec::new(alloc)
-            }
-            None => Vec::new(alloc),
-        };
-        push_line(&mut lines, symbol)?;
-        self.sources.push(InputSource::Symbols(lines))?;
-        Ok(())
-    }
-
-    /// Adds a file, or standard input if its name is `-`. Fails if memory can't be allocated.
-    fn add_file(&mut self, file: &'a str) -> Result<(), AllocError>
-        ensures sets { OnOk result (Sets ValuedOption.Input file.now
-            (options_of self.old) (options_of self.new)) }
-        ensures stdin { file.now ≡ codes "-" → OnOk result (self.new.sources.items
-            ≡ self.old.sources.items ++ InputSource.Stdin ∷ []) }
-        ensures hash { self.new.include_hash ≡ self.old.include_hash }
-        ensures fold { self.new.fold_arguments ≡ self.old.fold_arguments }
-        ensures limit { self.new.limit ≡ self.old.limit }
-        ensures output { self.new.output ≡ self.old.output }
-    {
-        let source = if file == "-" {
-            InputSource::Stdin
-        } else {
-            InputSource::File(file)
-        };
-        self.sources.push(source)?;
-        Ok(())
-    }
-
-    /// Sets the output. Fails if the output was set before; `argument` is the option's argument.
-    fn set_output(&mut self, argument: &'a str, value: &'a str) -> Result<(), UsageError<'a>>
-        ensures sets { OnOk result (Sets ValuedOption.Output value.now
-            (options_of self.old) (options_of self.new)) }
-        ensures refused { IfErr result (λ fault. IfSome (rejection_of fault) (λ answer.
-            IsInvalidValue (options_of self.old) ValuedOption.Output argument.now value.now answer)) }
-    {
-        if self.output.is_some() {
-            return Err(UsageError::SecondOutput(argument));
-        }
-        self.output = Some(if value == "-" {
-            Target::Stdout
-        } else {
-            Target::File(value)
-        });
-        Ok(())
-    }
-
-    /// Applies the value of an option; `argument` is the option's argument. Fails if the value is
-    /// not valid, if the output was set before, or if memory can't be allocated.
-    fn set_value(
-        &mut self,
-        option: ValuedOption,
-        argument: &'a str,
-        value: &'a str,
-    ) -> Result<(), UsageError<'a>>
-        ensures sets { OnOk result (Sets option value.now
-            (options_of self.old) (options_of self.new)) }
-        ensures refused { IfErr result (λ fault. IfSome (rejection_of fault) (λ answer.
-            IsInvalidValue (options_of self.old) option argument.now value.now answer)) }
-    {
-        match option {
-            ValuedOption::Input => self.add_file(value)?,
-            ValuedOption::Output => return self.set_output(argument, value),
-            ValuedOption::Limit => {
-                let Ok(limit) = value.parse::<usize>() else {
-                    return Err(UsageError::BadNumber(argument, value));
-                };
-                self.limit = limit;
-            }
-        }
-        Ok(())
-    }
-
     /// Applies an option, or waits for its value if the argument does not include it. Fails as
     /// `set_value` does.
     fn parse_option(
@@ -374,28 +196,6 @@ impl<'a> Request<'a> {
             }
         }
     }
-}
-
-/// Returns whether a text contains a symbol, which the filter would replace. Fails if memory can't
-/// be allocated.
-fn has_symbol(alloc: Global, text: &str) -> Result<bool, AllocError> {
-    if run_start(text.as_bytes()).is_none() {
-        return Ok(false);
-    }
-    let mut filtered = Vec::new(alloc);
-    match demangle_bytes(alloc, &mut text.as_bytes(), &mut filtered, false) {
-        Ok(()) => Ok(filtered.as_slice() != text.as_bytes()),
-        Err(_) => Err(AllocError),
-    }
-}
-
-/// Appends a text and a line feed. Fails if memory can't be allocated.
-fn push_line(lines: &mut Vec<u8>, text: &str) -> Result<(), AllocError>
-    ensures { OnOk result (lines.new.items ≡ lines.old.items ++ (text.now ++ 10 ∷ [])) }
-{
-    lines.extend_from_slice(text.as_bytes())?;
-    lines.push(b'\n')?;
-    Ok(())
 }
 
 /// Returns the error for an option without a value after it.

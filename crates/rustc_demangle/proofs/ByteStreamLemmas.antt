@@ -19,7 +19,7 @@ use Rattle.std.proofs.lemmas.List.Folds.{list_all-append, prefix_len-append}
 use Rattle.std.proofs.lemmas.List.Sums.{prefix_len-le-length}
 use Rattle.std.proofs.lemmas.Bool.{true≢false}
 use Rattle.std.proofs.lemmas.Bool.Decides.{nat_tests}
-use Rattle.rustc_demangle.specs.Filtered.{is_run_byte, starts_run, StartsOutsideRun, filtered_by}
+use Rattle.rustc_demangle.specs.Filtered.{by_runs, is_run_byte, starts_run, StartsOutsideRun, filtered_by}
 use Rattle.rustc_demangle.specs.ByteStream.{SplitsNoRun, IsPartialRun, FilteredPrefix, StepFiltered, StepFinished, StepFailed, BytesStopped}
 use Rattle.rustc_demangle.specs.declared.stream.fault.StreamFault.{StreamFault}
 use Rattle.rustc_demangle.specs.declared.stream.fault.StreamFault.TheVariants.{Read, NotUtf8, Write, Memory}
@@ -152,7 +152,7 @@ tail c a b cut = λ before run e some all begins. cut (c ∷ before) run (ap (λ
 
 -- a text that is filtered in two parts, of which the first splits no run
 split_from : (f : List ℕ → List ℕ) (a b : List ℕ) (k : ℕ) → k ≤ length a → SplitsNoRun a b → filtered_by f k (a ++ b) ≡ filtered_by f k a ++ filtered_by f zero b
-unfolding filtered_by
+unfolding by_runs
 split_from f [] b zero le cut = refl
 split_from f [] b (suc k) le cut = absurd (omega (arith, le))
 split_from f (c ∷ a) b (suc k) le cut = split_from f a b k (omega (arith, le)) (tail c a b cut)
@@ -180,7 +180,7 @@ filtered_split f a b cut = split_from f a b zero (omega arith) cut
 
 -- nothing was filtered
 pub passed_none : (f : List ℕ → List ℕ) (held left : List ℕ) (old : Option (List ℕ)) → held ≡ left → FilteredPrefix (filtered_by f zero) held left old old
-unfolding filtered_by
+unfolding by_runs
 passed_none f held left old e = record {
   prefix = [];
   whole = e;
@@ -259,7 +259,7 @@ passed_kept f held kept left old new e none wrote =
 
 -- a run is replaced
 pub filtered_whole : (f : List ℕ → List ℕ) (run : List ℕ) → starts_run run ≡ true → list_all is_run_byte run ≡ true → filtered_by f zero run ≡ f run
-unfolding filtered_by
+unfolding by_runs
 filtered_whole f run some all =
     let n = prefix_len is_run_byte run in
     let full : n ≡ length run = prefix_of_all run all in
@@ -289,7 +289,7 @@ pub finished_run : (f : List ℕ → List ℕ) (s : List ℕ) → IsPartialRun s
 finished_run f s is some = sym (filtered_whole f s some (open_run s is some))
 
 pub finished_kept : (f : List ℕ → List ℕ) (s : List ℕ) → IsPartialRun s → starts_run s ≡ false → s ≡ filtered_by f zero s
-unfolding filtered_by
+unfolding by_runs
 finished_kept f s (inl e) none = e ∙ sym (ap (filtered_by f zero) e)
 finished_kept f s (inr (inl e)) none = e ∙ sym (ap (filtered_by f zero) e)
 finished_kept f s (inr (inr (inl e))) none = e ∙ sym (ap (filtered_by f zero) e)

@@ -10,7 +10,7 @@ use Rattle.demangle_v0_grammar.specs.Reading.{form}
 use Rattle.rustc_demangle.specs.Stripped.{stripped}
 use Rattle.rustc_demangle.specs.Symbols.{IsSymbol, pieces_of, printed}
 use Rattle.rustc_demangle.proofs.SymbolLemmas.{symbol-pieces, pieces-symbol}
-use Rattle.rustc_demangle.specs.Filtered.{is_run_byte, starts_run, HasNoStart, StartsOutsideRun, IsRun, IsReplacement, AreReplaced, IsFiltered, replacement, filtered_by, filtered}
+use Rattle.rustc_demangle.specs.Filtered.{by_runs, is_run_byte, starts_run, HasNoStart, StartsOutsideRun, IsRun, IsReplacement, AreReplaced, IsFiltered, replacement, filtered_by, filtered}
 use Rattle.rustc_demangle.proofs.RunLemmas.{turn, filtered_other, filtered_run, filtered_all, begins_with, first_of_run, replacement-symbol, replacement-no_symbol}
 
 cases : (b : Bool) → (b ≡ true) ⊎ (b ≡ false)
@@ -98,7 +98,7 @@ starts_of h ((run, kept) ∷ parts) line out is =
     inr (subst (λ l. starts_run l ≡ true) (sym is.3) (begins_append run (kept ++ is.0) is.5.begins))
 
 runs_only : (h : Bool) (parts : List (List ℕ × List ℕ)) (line out : List ℕ) → AreReplaced h parts line out → out ≡ filtered h line
-unfolding filtered_by
+unfolding by_runs
 runs_only h [] line out is = is.1 ∙ sym (ap (filtered h) is.0)
 runs_only h ((run, kept) ∷ parts) line out is =
     let rest_is : is.2 ≡ filtered h is.0 = runs_only h parts is.0 is.2 is.8 in
@@ -210,7 +210,7 @@ replace h c s out some is = record {
     }
 
 from : (h : Bool) (skip : ℕ) (s : List ℕ) → IsFiltered h (drop skip s) (filtered_by (replacement h) skip s)
-unfolding filtered_by
+unfolding by_runs
 from h zero [] = nothing h
 from h (suc skip) [] = nothing h
 from h (suc skip) (c ∷ s) = from h skip s

@@ -10,7 +10,7 @@ use Rattle.demangle_symbol.specs.Digits.{number}
 use lib.Utf8.{scalar as is_scalar}
 use Rattle.rustc_demangle.specs.Stripped.{stripped, is_thin_lto}
 use Rattle.rustc_demangle.specs.Symbols.{IsSymbol, pieces_of, handed, printed, most_bytes}
-use Rattle.rustc_demangle.specs.Filtered.{is_run_byte, starts_run, replacement, filtered_by, filtered}
+use Rattle.rustc_demangle.specs.Filtered.{by_runs, is_run_byte, starts_run, replacement, filtered_by, filtered}
 use Rattle.rustc_demangle.specs.LineStream.{output_of}
 use Rattle.rustc_demangle.proofs.FilterLaws.{run_all}
 use Rattle.rustc_demangle.proofs.LineDivision.{lines_join}
@@ -258,7 +258,7 @@ line_feeds-run (c ∷ run) all = at (line_feeds-run run) (is_run_byte c) refl al
 
 -- a filtered line has as many line feeds as before
 line_feeds-filtered : (h : Bool) (skip : ℕ) (s : List ℕ) → line_feeds (filtered_by (replacement h) skip s) ≡ line_feeds (drop skip s)
-unfolding filtered_by
+unfolding by_runs
 line_feeds-filtered h zero [] = refl
 line_feeds-filtered h (suc skip) [] = refl
 line_feeds-filtered h (suc skip) (c ∷ s) = line_feeds-filtered h skip s

@@ -12,14 +12,14 @@ use Rattle.rustc_demangle.specs.Stripped.{stripped}
 use Rattle.rustc_demangle.specs.Symbols.{IsSymbol, form_of, pieces_in, handed_in, unfolded}
 use Rattle.rustc_demangle.specs.declared.format.Format.{Format}
 use Rattle.rustc_demangle.specs.Lines.{onto_first}
-use Rattle.rustc_demangle.specs.Filtered.{is_run_byte, starts_run, replacement_in, filtered_by, filtered_in, filtered_within}
+use Rattle.rustc_demangle.specs.Filtered.{by_runs, is_run_byte, starts_run, replacement_in, filtered_by, filtered_in, filtered_within}
 use Rattle.rustc_demangle.specs.TextPieces.{run_pieces, filtered_pieces_from, filtered_pieces_in, filtered_pieces}
 use Rattle.rustc_demangle.proofs.SymbolLemmas.{pieces-symbol, symbol-pieces}
 use Rattle.rustc_demangle.proofs.RunLemmas.{turn, first_of_run, run_some}
 
 -- skipped bytes are omitted
 pieces_skip : (format : Format) (n : ℕ) (s : List ℕ) → filtered_pieces_from format n s ≡ filtered_pieces_in format (drop n s)
-unfolding filtered_pieces_from
+unfolding by_runs
 pieces_skip format zero [] = refl
 pieces_skip format (suc n) [] = refl
 pieces_skip format zero (c ∷ s) = refl
@@ -34,13 +34,13 @@ pieces_turn format c s b = elim b [
 
 -- if no run starts, the character is unchanged
 pieces_other : (format : Format) (c : ℕ) (s : List ℕ) → starts_run (c ∷ s) ≡ false → filtered_pieces_in format (c ∷ s) ≡ onto_first c (filtered_pieces_in format s)
-unfolding filtered_pieces_from
+unfolding by_runs
 pieces_other format c s none = ap (pieces_turn format c s) none
 
 -- if a run starts, the text before it is empty
 pieces_run : (format : Format) (s : List ℕ) → starts_run s ≡ true
     → filtered_pieces_in format s ≡ [] ∷ (run_pieces format (take (prefix_len is_run_byte s) s) ++ filtered_pieces_in format (drop (prefix_len is_run_byte s) s))
-unfolding filtered_pieces_from
+unfolding by_runs
 pieces_run format [] some = absurd (omega (arith, (run_some [] some).0))
 pieces_run format (c ∷ s) some =
     let first : c ≡ 95 = first_of_run (c ∷ s) some in
@@ -60,7 +60,7 @@ pieces_kept format (suc n) (c ∷ s) le none some =
 
 -- a text in which no run starts is one piece
 pieces_all : (format : Format) (s : List ℕ) → ((k : ℕ) → k < length s → starts_run (drop k s) ≡ false) → filtered_pieces_in format s ≡ s ∷ []
-unfolding filtered_pieces_from
+unfolding by_runs
 pieces_all format [] none = refl
 pieces_all format (c ∷ s) none =
     pieces_other format c s (none 0 (omega arith)) ∙ ap (onto_first c) (pieces_all format s (λ k lt. none (suc k) (omega (arith, lt))))
@@ -91,7 +91,7 @@ concat-onto c [] = refl
 concat-onto c (p ∷ ps) = refl
 
 join_from : (format : Format) (k : ℕ) (s : List ℕ) → concat (filtered_pieces_from format k s) ≡ filtered_by (replacement_in format) k s
-unfolding filtered_by filtered_pieces_from
+unfolding by_runs
 join_from format zero [] = refl
 join_from format (suc k) [] = refl
 join_from format (suc k) (c ∷ s) = join_from format k s

@@ -12,11 +12,11 @@ use Rattle.rustc_demangle.specs.Stripped.{stripped}
 use Rattle.rustc_demangle.specs.Symbols.{IsSymbol, form_of, pieces_in, handed_in, unfolded, printed, most_bytes}
 use Rattle.rustc_demangle.specs.declared.format.Format.{Format}
 use Rattle.rustc_demangle.proofs.SymbolLemmas.{pieces-symbol, symbol-pieces}
-use Rattle.rustc_demangle.specs.Filtered.{is_run_byte, starts_run, filtered_by, replacement_in, replacement}
+use Rattle.rustc_demangle.specs.Filtered.{by_runs, is_run_byte, starts_run, filtered_by, replacement_in, replacement}
 
 -- skipped bytes are omitted
 pub filtered_skip : (f : List ℕ → List ℕ) (n : ℕ) (s : List ℕ) → filtered_by f n s ≡ filtered_by f zero (drop n s)
-unfolding filtered_by
+unfolding by_runs
 filtered_skip f zero [] = refl
 filtered_skip f (suc n) [] = refl
 filtered_skip f zero (c ∷ s) = refl
@@ -31,13 +31,13 @@ turn f c s b = elim b [
 
 -- if no run starts, the character is unchanged
 pub filtered_other : (f : List ℕ → List ℕ) (c : ℕ) (s : List ℕ) → starts_run (c ∷ s) ≡ false → filtered_by f zero (c ∷ s) ≡ c ∷ filtered_by f zero s
-unfolding filtered_by
+unfolding by_runs
 filtered_other f c s none = ap (turn f c s) none
 
 -- if a run starts, it is replaced
 pub filtered_first : (f : List ℕ → List ℕ) (c : ℕ) (s : List ℕ) → starts_run (c ∷ s) ≡ true
     → filtered_by f zero (c ∷ s) ≡ f (c ∷ take_while is_run_byte s) ++ filtered_by f zero (drop (prefix_len is_run_byte s) s)
-unfolding filtered_by
+unfolding by_runs
 filtered_first f c s some = ap (turn f c s) some ∙ ap (λ l. f (c ∷ take_while is_run_byte s) ++ l) (filtered_skip f (prefix_len is_run_byte s) s)
 
 -- a run starts with `_ZN` or `_R`
@@ -86,7 +86,7 @@ cut_after s utf8 some =
 
 -- a text in which no run starts is unchanged
 pub filtered_all : (f : List ℕ → List ℕ) (s : List ℕ) → ((k : ℕ) → k < length s → starts_run (drop k s) ≡ false) → filtered_by f zero s ≡ s
-unfolding filtered_by
+unfolding by_runs
 filtered_all f [] none = refl
 filtered_all f (c ∷ s) none =
     filtered_other f c s (none 0 (omega arith)) ∙ ap (λ l. c ∷ l) (filtered_all f s (λ k lt. none (suc k) (omega arith)))

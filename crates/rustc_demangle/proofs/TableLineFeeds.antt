@@ -9,7 +9,7 @@ use Rattle.demangle_symbol.specs.Primitives.{Name, is_upper, some_or, number_of}
 use Rattle.demangle_symbol.specs.Names.{is_empty, is_empty_name, name_pieces}
 use Rattle.demangle_symbol.specs.Literals.{literal, string_of}
 use Rattle.demangle_v0_grammar.specs.Items.{Text, Kind, a_path, a_type, a_constant, a_pattern, a_trait_path, Items, done, invalid, print, print_plain, byte, next, raise, unit, child, leave_open, dyn_trait}
-use Rattle.demangle_v0_grammar.specs.Table.{is_among, row_of, print_str, print_if, print_all, list, tuple, type_inside, constant_inside, argument, arguments, in_special, in_namespace, path_rows, basic_types, row_text, extern, signature, function, binding_value, after_tag, type_rows, type_after_tag, type_tagged, pattern_rows, braces, integer_constant, character, truth, string, field, variant, variant_rows, constant_rows, items}
+use Rattle.demangle_v0_grammar.specs.Table.{is_among, row_of, print_str, print_if, print_all, list, tuple, type_inside, constant_inside, argument, arguments, in_special, in_namespace, path_rows, basic_types, row_text, extern, parameters, print_qualifiers, function, binding_value, after_tag, type_rows, type_after_tag, type_tagged, pattern_rows, braces, integer_constant, print_char, print_bool, string, field, variant, variant_rows, constant_rows, items}
 use Rattle.rustc_demangle.proofs.LineFeeds.{line_feeds-other}
 use Rattle.rustc_demangle.proofs.PrimitiveLineFeeds.{AreClear, number_clear, name_clear, extern_clear, literal_clear}
 use Rattle.rustc_demangle.proofs.ItemLineFeeds.{SaysClear}
@@ -107,8 +107,8 @@ basic_clear =
     refl ▸ refl ▸ refl ▸ refl ▸ refl ▸ refl ▸ refl ▸ refl ▸ refl ▸ refl ▸ refl ▸ refl ▸ refl ▸ refl ▸ refl
     ▸ refl ▸ refl ▸ refl ▸ refl ▸ refl ▸ refl ▸ tt
 
-signature_clear : (unsafe : Bool) (abi : List Text) → AreClear abi → SaysClear (signature unsafe abi)
-signature_clear unsafe abi h =
+qualifiers_clear : (unsafe : Bool) (abi : List Text) → AreClear abi → SaysClear (print_qualifiers unsafe abi parameters)
+qualifiers_clear unsafe abi h =
     let inner = list ", " type_inside (print_str ")" (next (code "u") done (print_str " -> " type_inside))) in
     let after : SaysClear (print_all abi (print_str "fn(" inner)) = all_clear abi (print_str "fn(" inner) h (refl, list_clear ", " type_inside (print_str ")" (next (code "u") done (print_str " -> " type_inside))) refl tt (refl, (tt, (refl, tt)))) in
     cond_clear unsafe (print_str "unsafe " (print_all abi (print_str "fn(" inner))) (print_all abi (print_str "fn(" inner)) (refl, after) after
@@ -116,10 +116,10 @@ signature_clear unsafe abi h =
 function_clear : (unsafe : Bool) → SaysClear (function unsafe)
 function_clear unsafe = (
   (
-    signature_clear unsafe (extern (codes "C")) (extern_clear (codes "C") refl),
-    (λ a h _. cond_clear (is_empty a.ascii) _ _ tt (cond_clear (is_empty a.punycode) _ _ (signature_clear unsafe (extern a.ascii) (extern_clear a.ascii h)) tt)),
+    qualifiers_clear unsafe (extern (codes "C")) (extern_clear (codes "C") refl),
+    (λ a h _. cond_clear (is_empty a.ascii) _ _ tt (cond_clear (is_empty a.punycode) _ _ (qualifiers_clear unsafe (extern a.ascii) (extern_clear a.ascii h)) tt)),
   ),
-  signature_clear unsafe [] tt,
+  qualifiers_clear unsafe [] tt,
 )
 
 types_clear : (tag : ℕ) → RowsClear (type_rows tag)
@@ -160,13 +160,13 @@ digits_clear tag = λ h none.
 string_clear : SaysClear string
 string_clear = λ h _. some_clear invalid (string_of h) (λ cs. print_all (literal (code "\"") cs) done) tt (λ cs. all_clear (literal (code "\"") cs) done (literal_clear 34 cs (λ same. omega (arith, same))) tt)
 
-truth_clear : (o : Option ℕ) → SaysClear (truth o)
-truth_clear None = tt
-truth_clear (Some n) = cond_clear (n == 0) _ _ (refl, tt) (cond_clear (n == 1) _ _ (refl, tt) tt)
+bool_clear : (o : Option ℕ) → SaysClear (print_bool done o)
+bool_clear None = tt
+bool_clear (Some n) = cond_clear (n == 0) _ _ (refl, tt) (cond_clear (n == 1) _ _ (refl, tt) tt)
 
-character_clear : (o : Option ℕ) → SaysClear (character o)
-character_clear None = tt
-character_clear (Some c) = cond_clear (scalar c) _ _ (all_clear (literal (code "'") (c ∷ [])) done (literal_clear 39 (c ∷ []) (λ same. omega (arith, same))) tt) tt
+char_clear : (o : Option ℕ) → SaysClear (print_char done o)
+char_clear None = tt
+char_clear (Some c) = cond_clear (scalar c) _ _ (all_clear (literal (code "'") (c ∷ [])) done (literal_clear 39 (c ∷ []) (λ same. omega (arith, same))) tt) tt
 
 variants_clear : (p : Items) → SaysClear p → RowsClear (variant_rows p)
 variants_clear p x = x
@@ -179,8 +179,8 @@ constants_clear value tag =
     (refl, tt)
     ▸ digits_clear tag
     ▸ ((refl, digits_clear tag), digits_clear tag)
-    ▸ (λ h _. truth_clear (number_of h))
-    ▸ (λ h _. character_clear (number_of h))
+    ▸ (λ h _. bool_clear (number_of h))
+    ▸ (λ h _. char_clear (number_of h))
     ▸ braces_clear value (λ p. print_str "*" (unit string p)) (λ p x. (refl, (string_clear, x)))
     ▸ (string_clear, braces_clear value (λ p. print_str "&" (child a_constant true p)) (λ p x. (refl, x)))
     ▸ braces_clear value (λ p. print_str "&" (print_str "mut " (child a_constant true p))) (λ p x. (refl, (refl, x)))

@@ -4,7 +4,7 @@ use Rattle.std.specs.Prelude.{◌≡◌, ℕ, true, false, List, [], ◌∷◌, 
 use Rattle.std.specs.List.{concat}
 use Rattle.std.specs.Char.{encode_utf8}
 use Rattle.demangle_symbol.specs.Digits.{number}
-use Rattle.rustc_demangle.specs.Filtered.{filtered_by, filtered}
+use Rattle.rustc_demangle.specs.Filtered.{by_runs, filtered_by, filtered}
 use Rattle.demangle_legacy.specs.Legacy.{inner_of, element_of, parts_within, parts_of, legacy_of}
 use Rattle.rustc_demangle.specs.Lines.{lines}
 use Rattle.rustc_demangle.specs.Stripped.{stripped, is_allowed}
@@ -52,7 +52,7 @@ with_hash : map (filtered true) texts ≡
     codes "_Z _ZN_ _R" ∷
     codes "<foo::h05af221e174051e9>" ∷
     []
-unfolding filtered_by stripped number inner_of element_of parts_within parts_of legacy_of escape_of_digits escape_of leading_unit pieces_from unescaped printed_elements encode_utf8 v0_in v0_of
+unfolding by_runs stripped number inner_of element_of parts_within parts_of legacy_of escape_of_digits escape_of leading_unit pieces_from unescaped printed_elements encode_utf8 v0_in v0_of
 with_hash = refl
 
 -- `_ZN3fooE` followed by a byte of ASCII, for each of these bytes
@@ -70,15 +70,15 @@ abbrev extends_prefix : List ℕ
 extends_prefix = codes "$0123456789ABCDEFGHIJKLMNOPQRSTUVWXYZ_abcdefghijklmnopqrstuvwxyz"
 
 run_ends : map (filtered true) (before_each ends) ≡ map (λ b. codes "foo" ++ b ∷ []) ends
-unfolding filtered_by stripped number inner_of element_of parts_within parts_of legacy_of escape_of_digits escape_of leading_unit pieces_from unescaped printed_elements encode_utf8 v0_in v0_of
+unfolding by_runs stripped number inner_of element_of parts_within parts_of legacy_of escape_of_digits escape_of leading_unit pieces_from unescaped printed_elements encode_utf8 v0_in v0_of
 run_ends = refl
 
 run_goes_on : map (filtered true) (before_each extends_prefix) ≡ before_each extends_prefix
-unfolding filtered_by stripped number inner_of element_of parts_within parts_of legacy_of escape_of_digits escape_of leading_unit pieces_from unescaped printed_elements encode_utf8 v0_in v0_of
+unfolding by_runs stripped number inner_of element_of parts_within parts_of legacy_of escape_of_digits escape_of leading_unit pieces_from unescaped printed_elements encode_utf8 v0_in v0_of
 run_goes_on = refl
 
 run_has_a_suffix : filtered true (codes "_ZN3fooE.") ≡ codes "foo."
-unfolding filtered_by stripped number inner_of element_of parts_within parts_of legacy_of escape_of_digits escape_of leading_unit pieces_from unescaped printed_elements encode_utf8 v0_in v0_of
+unfolding by_runs stripped number inner_of element_of parts_within parts_of legacy_of escape_of_digits escape_of leading_unit pieces_from unescaped printed_elements encode_utf8 v0_in v0_of
 run_has_a_suffix = refl
 
 -- the text under a limit, with the marker if it is cut, and the suffix

@@ -4,7 +4,7 @@ use Rattle.std.specs.List.{prefix_len, take_while, starts_with}
 use Rattle.std.proofs.lemmas.List.Sums.{take_while-cons}
 use Rattle.std.proofs.lemmas.Bool.{true≢false}
 use Rattle.rustc_demangle.specs.Lines.{lines, onto_first}
-use Rattle.rustc_demangle.specs.Filtered.{is_run_byte, starts_run, replacement, filtered_by, filtered}
+use Rattle.rustc_demangle.specs.Filtered.{by_runs, is_run_byte, starts_run, replacement, filtered_by, filtered}
 use Rattle.rustc_demangle.specs.LineStream.{output_of}
 use Rattle.rustc_demangle.proofs.RunLemmas.{turn}
 
@@ -83,23 +83,23 @@ out-zero h [] = refl
 out-zero h (l ∷ ls) = refl
 
 skip_nothing : (h : Bool) (k : ℕ) → filtered_by (replacement h) k [] ≡ []
-unfolding filtered_by
+unfolding by_runs
 skip_nothing h zero = refl
 skip_nothing h (suc k) = refl
 
 out-onto_skip : (h : Bool) (k b : ℕ) (ls : List (List ℕ)) → out_from h (suc k) (onto_first b ls) ≡ out_from h k ls
-unfolding filtered_by
+unfolding by_runs
 out-onto_skip h k b [] = ap (λ l. l ++ []) (skip_nothing h k)
 out-onto_skip h k b (l ∷ ls) = refl
 
 out-onto_kept : (h : Bool) (b : ℕ) (ls : List (List ℕ)) → starts_run (b ∷ first ls) ≡ false → out_from h zero (onto_first b ls) ≡ b ∷ out_from h zero ls
-unfolding filtered_by
+unfolding by_runs
 out-onto_kept h b [] none = ap (λ t. turn (replacement h) b [] t ++ []) none
 out-onto_kept h b (l ∷ ls) none = ap (λ t. turn (replacement h) b l t ++ output_of h ls) none
 
 out-onto_run : (h : Bool) (b : ℕ) (ls : List (List ℕ)) → starts_run (b ∷ first ls) ≡ true
     → out_from h zero (onto_first b ls) ≡ replacement h (b ∷ take_while is_run_byte (first ls)) ++ out_from h (prefix_len is_run_byte (first ls)) ls
-unfolding filtered_by
+unfolding by_runs
 out-onto_run h b [] some = ap (λ t. turn (replacement h) b [] t ++ []) some ∙ append_assoc (replacement h (b ∷ [])) [] []
 out-onto_run h b (l ∷ ls) some = ap (λ t. turn (replacement h) b l t ++ output_of h ls) some ∙ append_assoc (replacement h (b ∷ take_while is_run_byte l)) (filtered_by (replacement h) (prefix_len is_run_byte l) l) (output_of h ls)
 
@@ -120,7 +120,7 @@ turned h b bs ih e false is =
     ap (λ l. b ∷ l) (ih zero (omega arith)) ∙ sym (out-onto_kept h b (lines bs) same)
 
 whole_from : (h : Bool) (s : List ℕ) (k : ℕ) → k ≤ clear s → filtered_by (replacement h) k s ≡ out_from h k (lines s)
-unfolding lines filtered_by
+unfolding lines by_runs
 whole_from h [] k le = skip_nothing h k
 whole_from h (b ∷ bs) k le = at (λ j l. whole_from h bs j l) (eqb b 10) refl k le
   where

@@ -67,14 +67,19 @@ replacement_within hash limit = replacement_in (unfolded hash limit)
 abbrev pub replacement : Bool → List ℕ → List ℕ
 replacement hash run = replacement_within hash most_bytes run
 
--- the line without its first `skip` bytes, with each run replaced by the result of `stands`
-unfoldable pub filtered_by : (List ℕ → List ℕ) → ℕ → List ℕ → List ℕ
-filtered_by stands skip [] = []
-filtered_by stands (suc skip) (c ∷ s) = filtered_by stands skip s
-filtered_by stands zero (c ∷ s) = elim (starts_run (c ∷ s)) [
-  | true ↦ stands (c ∷ take_while is_run_byte s) ++ filtered_by stands (prefix_len is_run_byte s) s
-  | false ↦ c ∷ filtered_by stands zero s
+-- A result of the text without its first `skip` bytes. It is computed from the end of the text: `run` adds a run to the
+-- result of the text after it, `plain` adds any other byte, and `empty` is the result of the empty text.
+unfoldable pub by_runs : {A : Type 0} → (List ℕ → A → A) → (ℕ → A → A) → A → ℕ → List ℕ → A
+by_runs run plain empty skip [] = empty
+by_runs run plain empty (suc skip) (c ∷ s) = by_runs run plain empty skip s
+by_runs run plain empty zero (c ∷ s) = elim (starts_run (c ∷ s)) [
+  | true ↦ run (c ∷ take_while is_run_byte s) (by_runs run plain empty (prefix_len is_run_byte s) s)
+  | false ↦ plain c (by_runs run plain empty zero s)
 ]
+
+-- the text without its first `skip` bytes, with each run replaced by the result of `replaced`
+abbrev pub filtered_by : (List ℕ → List ℕ) → ℕ → List ℕ → List ℕ
+filtered_by replaced = by_runs (λ run rest. replaced run ++ rest) (λ c rest. c ∷ rest) []
 
 -- any bytes with each run replaced, in a format
 abbrev pub filtered_in : Format → List ℕ → List ℕ

@@ -1,12 +1,11 @@
 -- The pieces that a sink gets for a text with its symbols demangled.
-use Rattle.std.specs.Prelude.{ℕ, zero, suc, Bool, true, false, List, [], ◌∷◌, ◌++◌}
-use Rattle.std.specs.List.{prefix_len, take_while}
+use Rattle.std.specs.Prelude.{ℕ, zero, Bool, List, [], ◌∷◌, ◌++◌}
 use Rattle.std.specs.Option.{option_map_or}
 use Rattle.rustc_demangle.specs.Stripped.{stripped}
 use Rattle.rustc_demangle.specs.Symbols.{pieces_in, form_of, handed_in, unfolded}
 use Rattle.rustc_demangle.specs.declared.format.Format.{Format}
 use Rattle.rustc_demangle.specs.Lines.{onto_first}
-use Rattle.rustc_demangle.specs.Filtered.{is_run_byte, starts_run}
+use Rattle.rustc_demangle.specs.Filtered.{by_runs}
 
 -- the pieces that replace a run: those of its symbol within the limit, or the run itself if it is not a symbol
 abbrev pub run_pieces : Format → List ℕ → List (List ℕ)
@@ -14,13 +13,8 @@ run_pieces format run = option_map_or (λ _. handed_in (stripped run) format) (p
 
 -- The pieces of the text without its first `skip` bytes. The plain text up to the next run is one piece, which may be
 -- empty. The pieces of that run follow, and so on.
-unfoldable pub filtered_pieces_from : Format → ℕ → List ℕ → List (List ℕ)
-filtered_pieces_from format skip [] = [] ∷ []
-filtered_pieces_from format (suc skip) (c ∷ s) = filtered_pieces_from format skip s
-filtered_pieces_from format zero (c ∷ s) = elim (starts_run (c ∷ s)) [
-  | true ↦ [] ∷ (run_pieces format (c ∷ take_while is_run_byte s) ++ filtered_pieces_from format (prefix_len is_run_byte s) s)
-  | false ↦ onto_first c (filtered_pieces_from format zero s)
-]
+abbrev pub filtered_pieces_from : Format → ℕ → List ℕ → List (List ℕ)
+filtered_pieces_from format = by_runs (λ run rest. [] ∷ (run_pieces format run ++ rest)) onto_first ([] ∷ [])
 
 -- the pieces of a text in a format
 abbrev pub filtered_pieces_in : Format → List ℕ → List (List ℕ)

@@ -1,5 +1,8 @@
 //! The format in which symbols are printed.
 
+ghost use Rattle.std.specs.Prelude.{◌≡◌};
+ghost use Rattle.rustc_demangle.specs.Symbols.{folded, unfolded};
+
 /// How a symbol is printed.
 ///
 /// The calls without a `Format` print generic arguments.
@@ -13,4 +16,31 @@ pub struct Format {
     pub fold_arguments: bool,
     /// The most bytes before the marker `{size limit reached}` and the suffix.
     pub limit: usize,
+}
+
+impl Format {
+    /// Returns the format that prints generic arguments, with hashes or without, and cuts each
+    /// symbol at `limit` bytes.
+    #[inline]
+    pub const fn unfolded(include_hash: bool, limit: usize) -> Self
+        ensures { result ≡ unfolded include_hash limit }
+    {
+        Format {
+            include_hash,
+            fold_arguments: false,
+            limit,
+        }
+    }
+
+    /// Returns the same format, but with `_` for each list of generic arguments.
+    #[inline]
+    pub const fn folded(include_hash: bool, limit: usize) -> Self
+        ensures { result ≡ folded include_hash limit }
+    {
+        Format {
+            include_hash,
+            fold_arguments: true,
+            limit,
+        }
+    }
 }

@@ -66,11 +66,7 @@ pub fn demangle_slice(
     ensures none { IfNone result
         (usize.MAX < length (filtered_within include_hash limit text.now)) }
 {
-    let format = Format {
-        include_hash,
-        fold_arguments: false,
-        limit,
-    };
+    let format = Format::unfolded(include_hash, limit);
     demangle_slice_formatted(text, out, format)
 }
 

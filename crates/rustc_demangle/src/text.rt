@@ -71,11 +71,7 @@ pub fn demangle_text_limited<S: TextSink>(
     ensures { Writes S.TextSink out.old
         (filtered_pieces include_hash limit text.now) result out.new }
 {
-    let format = Format {
-        include_hash,
-        fold_arguments: false,
-        limit,
-    };
+    let format = Format::unfolded(include_hash, limit);
     demangle_text_formatted(text, out, format)
 }
 

@@ -1,21 +1,20 @@
-//! A demangled symbol and its printing.
+//! A demangled symbol, and how it is read.
 ghost use Rattle.std.specs.Prelude.{◌≡◌, ◌+◌, ◌-◌, ◌*◌, ◌≤◌, length, true, false, IsTrue, IsAscii, IfSome, IfNone, None};
 ghost use Rattle.std.specs.List.{list_all};
-ghost use Rattle.demangle_sink.specs.Cut.{cut};
-ghost use Rattle.demangle_sink.specs.PutsPieces.{PutsPieces};
 ghost use Rattle.demangle_legacy.specs.Legacy.{legacy_of};
 ghost use Rattle.demangle_sink.specs.Limit.{Prints, Ready};
-ghost use Rattle.rustc_demangle.specs.Filtered.{is_run_byte, replacement_in};
-ghost use Rattle.rustc_demangle.specs.PathEnds.{path_len_of, handed_with_path_len};
+ghost use Rattle.rustc_demangle.specs.Filtered.{is_run_byte};
+ghost use Rattle.rustc_demangle.specs.PathEnds.{path_len_of};
 ghost use Rattle.rustc_demangle.specs.Stripped.{is_allowed, is_graphic, stripped};
 ghost use Rattle.rustc_demangle.specs.Style.{style_pieces, style_len, style_looks, style_least, IsReadAs, HasNoStyle, HasStyle};
-ghost use Rattle.rustc_demangle.specs.Symbols.{folded, form_of, handed, handed_in, most_bytes, IsSymbol, PrintingLooks, PrintingLooksIn};
+ghost use Rattle.rustc_demangle.specs.Symbols.{form_of, IsSymbol};
 ghost use Rattle.demangle_v0_grammar.specs.V0.{v0_of};
-ghost use Rattle.demangle_sink.specs.Writes.{Writes};
+
+pub(crate) mod printing;
 
 use crate::format::Format;
 use crate::strip::without_thin_lto;
-use demangle_sink::{SinkRefused, SizeLimitedFmtAdapter, TextSink, put_piece};
+use demangle_sink::{SinkRefused, SizeLimitedFmtAdapter, TextSink};
 use demangle_symbol::cursor::{Looks, Symbol};
 use std::marker::Model;
 
@@ -76,32 +75,6 @@ impl<'a> Model for Demangle<'a> {
     ghost invariant = { λ d. IsStyled d.style d.original.now d.suffix.now };
 }
 
-/// Prints a symbol without its suffix into a sink, cut at the limit. Fails if the sink fails.
-fn write_cut<S: TextSink>(
-    style: &DemangleStyle<'_>,
-    out: &mut S,
-    format: Format,
-    looks: &mut Looks,
-) -> Result<(), SinkRefused>
-    requires { S.failed out.old ≡ false }
-    ensures hands { PutsPieces S.TextSink out.old
-        (cut (style_pieces (form_of format) style.now) format.limit) result out.new }
-    ensures grows { looks.old ≤ looks.new }
-    ensures most { looks.new ≤ looks.old
-        + style_looks (form_of format) format.limit style.now }
-    ensures least { looks.old + style_least style.now ≤ looks.new }
-{
-    let mut limited = SizeLimitedFmtAdapter::new(out, format.limit);
-    let result = style.write_to(&mut limited, format, looks);
-    // Printing stops in the same way at the limit and if the sink fails. Only a sink that has not
-    // failed gets the marker.
-    if limited.is_limit_reached() {
-        put_piece("{size limit reached}", out)
-    } else {
-        result
-    }
-}
-
 impl<'a> Demangle<'a> {
     /// Returns the original symbol without the suffix that ThinLTO appends.
     pub fn as_str(&self) -> &'a str
@@ -120,172 +93,6 @@ impl<'a> Demangle<'a> {
             Some(_) => self.original.len() - self.suffix.len(),
             None => 0,
         }
-    }
-
-    /// Writes the pieces of the symbol into a sink, cut at the limit before the suffix, and counts
-    /// its looks. Fails if the sink fails.
-    pub(crate) fn write_pieces<S: TextSink>(
-        &self,
-        out: &mut S,
-        format: Format,
-        looks: &mut Looks,
-    ) -> Result<(), SinkRefused>
-        requires { S.failed out.old ≡ false }
-        ensures hands { PutsPieces S.TextSink out.old (handed_in self.now format) result out.new }
-        ensures looks { PrintingLooksIn self.now format looks.old looks.new }
-    {
-        let Some(style) = &self.style else {
-            return put_piece(self.original, out);
-        };
-        write_cut(style, out, format, looks)?;
-        put_piece(self.suffix, out)
-    }
-
-    /// Prints into a sink in a format, and counts its looks, as `write_limited_counted` does.
-    pub fn write_formatted_counted<S: TextSink>(
-        &self,
-        out: &mut S,
-        format: Format,
-        looks: &mut Looks,
-    ) -> Result<(), SinkRefused>
-        requires { S.failed out.old ≡ false }
-        ensures writes { Writes S.TextSink out.old (handed_in self.now format) result out.new }
-        ensures looks { PrintingLooksIn self.now format looks.old looks.new }
-    {
-        self.write_pieces(out, format, looks)
-    }
-
-    /// Prints into a sink in a format, as `write_formatted_counted` does.
-    pub fn write_formatted<S: TextSink>(
-        &self,
-        out: &mut S,
-        format: Format,
-    ) -> Result<(), SinkRefused>
-        requires { S.failed out.old ≡ false }
-        ensures { Writes S.TextSink out.old (handed_in self.now format) result out.new }
-    {
-        self.write_formatted_counted(out, format, &mut Looks::new())
-    }
-
-    /// Prints into a sink, cut at `limit` bytes before the suffix, and counts its looks.
-    ///
-    /// The path ends before a piece that would exceed the limit. Then `{size limit reached}` and
-    /// the suffix follow. A text that is not a symbol has no limit. If all pieces fit into the
-    /// sink's room, the call succeeds, and the room decreases by their bytes.
-    ///
-    /// # Errors
-    ///
-    /// Fails exactly if the sink failed during this call. The sink then gets no further piece. A
-    /// sink that keeps what it took holds the pieces before the rejected one.
-    pub fn write_limited_counted<S: TextSink>(
-        &self,
-        out: &mut S,
-        include_hash: bool,
-        limit: usize,
-        looks: &mut Looks,
-    ) -> Result<(), SinkRefused>
-        requires { S.failed out.old ≡ false }
-        ensures writes { Writes S.TextSink out.old (handed self.now include_hash limit)
-            result out.new }
-        ensures looks { PrintingLooks self.now include_hash limit looks.old looks.new }
-    {
-        let format = Format {
-            include_hash,
-            fold_arguments: false,
-            limit,
-        };
-        self.write_formatted_counted(out, format, looks)
-    }
-
-    /// Prints into a sink, cut at `limit` bytes before the suffix, as `write_limited_counted` does.
-    pub fn write_limited<S: TextSink>(
-        &self,
-        out: &mut S,
-        include_hash: bool,
-        limit: usize,
-    ) -> Result<(), SinkRefused>
-        requires { S.failed out.old ≡ false }
-        ensures { Writes S.TextSink out.old (handed self.now include_hash limit)
-            result out.new }
-    {
-        self.write_limited_counted(out, include_hash, limit, &mut Looks::new())
-    }
-
-    /// Prints into a sink with `_` for each list of generic arguments, cut at `limit` bytes before
-    /// the suffix, and counts its looks.
-    ///
-    /// So all instances of a generic function have one name: `foo::bar::<_>` for `foo::bar::<u8>`.
-    /// A list is read and not printed. No reference in it is followed, and no lifetime in it is
-    /// checked. All else prints as by `write_limited_counted`. A legacy symbol prints completely,
-    /// because its arguments are parts of names.
-    ///
-    /// # Errors
-    ///
-    /// Fails exactly if the sink failed during this call, as `write_limited_counted` says.
-    pub fn write_folded_counted<S: TextSink>(
-        &self,
-        out: &mut S,
-        include_hash: bool,
-        limit: usize,
-        looks: &mut Looks,
-    ) -> Result<(), SinkRefused>
-        requires { S.failed out.old ≡ false }
-        ensures writes { Writes S.TextSink out.old (handed_in self.now (folded include_hash limit))
-            result out.new }
-        ensures looks { PrintingLooksIn self.now (folded include_hash limit)
-            looks.old looks.new }
-    {
-        let format = Format {
-            include_hash,
-            fold_arguments: true,
-            limit,
-        };
-        self.write_formatted_counted(out, format, looks)
-    }
-
-    /// Prints into a sink with `_` for each list of generic arguments, cut at `limit` bytes before
-    /// the suffix, as `write_folded_counted` does.
-    pub fn write_folded<S: TextSink>(
-        &self,
-        out: &mut S,
-        include_hash: bool,
-        limit: usize,
-    ) -> Result<(), SinkRefused>
-        requires { S.failed out.old ≡ false }
-        ensures { Writes S.TextSink out.old (handed_in self.now (folded include_hash limit))
-            result out.new }
-    {
-        self.write_folded_counted(out, include_hash, limit, &mut Looks::new())
-    }
-
-    /// Prints into a sink, cut at 1,000,000 bytes before the suffix, and counts its looks, as
-    /// `write_limited_counted` does.
-    pub fn write_counted<S: TextSink>(
-        &self,
-        out: &mut S,
-        include_hash: bool,
-        looks: &mut Looks,
-    ) -> Result<(), SinkRefused>
-        requires { S.failed out.old ≡ false }
-        ensures writes { Writes S.TextSink out.old (handed self.now include_hash most_bytes)
-            result out.new }
-        ensures looks { PrintingLooks self.now include_hash most_bytes looks.old looks.new }
-    {
-        self.write_limited_counted(out, include_hash, MAX_SIZE, looks)
-    }
-
-    /// Prints into a sink, cut at 1,000,000 bytes before the suffix, with or without the hash of a
-    /// legacy symbol. It does not allocate.
-    ///
-    /// # Errors
-    ///
-    /// Fails exactly if the sink failed during this call, as `write_limited_counted` says.
-    pub fn write_to<S: TextSink>(&self, out: &mut S, include_hash: bool) -> Result<(), SinkRefused>
-        requires { S.failed out.old ≡ false }
-        ensures { Writes S.TextSink out.old (handed self.now include_hash most_bytes)
-            result out.new }
-    {
-        self.write_limited(out, include_hash, MAX_SIZE)
     }
 }
 
@@ -411,84 +218,4 @@ impl<'a> Demangle<'a> {
     {
         self.style.is_some()
     }
-}
-
-/// Prints a run that is a v0 symbol, in one pass over its first path. A run is ASCII.
-///
-/// Returns `false` if the run is not a v0 symbol, as `demangle_v0::demangle_printed` does. Then an
-/// unknown part of the symbol may be in the sink, and `Demangle::read_run` says what the run is.
-#[inline(never)]
-pub(crate) fn print_v0_run<S: TextSink>(run: &str, out: &mut S, format: Format) -> bool
-    requires run { list_all is_run_byte run.now ≡ true }
-    requires not_failed { S.failed out.old ≡ false }
-    ensures { IsTrue result →
-        S.took out.old (replacement_in format run.now) out.new }
-{
-    let text = without_thin_lto(run);
-    let mut limited = SizeLimitedFmtAdapter::new(out, format.limit);
-    let read = demangle_v0::demangle_printed(
-        text,
-        &mut limited,
-        format.include_hash,
-        format.fold_arguments,
-    );
-    let Some((_, suffix)) = read else {
-        return false;
-    };
-    let mut looks = Looks::new();
-    is_allowed(suffix, &mut looks) && put_piece(suffix, out).is_ok()
-}
-
-/// Prints a text into a sink; its path has `path_len` bytes. Fails if the sink fails.
-fn write_pieces_with_path_len<S: TextSink>(
-    text: &str,
-    path_len: usize,
-    out: &mut S,
-    include_hash: bool,
-    limit: usize,
-) -> Result<(), SinkRefused>
-    requires { S.failed out.old ≡ false }
-    ensures { PutsPieces S.TextSink out.old (handed_with_path_len text.now path_len include_hash limit)
-        result out.new }
-{
-    let format = Format {
-        include_hash,
-        fold_arguments: false,
-        limit,
-    };
-    let mut looks = Looks::new();
-    let Some(symbol) = demangle_v0::ascii_symbol(text, &mut looks) else {
-        let read = Demangle::read(text, false, &mut looks);
-        return read.write_pieces(out, format, &mut looks);
-    };
-    // The caller may pass any number.
-    let suffix = &text[path_len.min(text.len())..];
-    let style = DemangleStyle::V0(symbol);
-    write_cut(&style, out, format, &mut looks)?;
-    put_piece(suffix, out)
-}
-
-/// Prints a symbol as `Demangle::write_limited` does, without parsing the end of its path again.
-/// `path_len` is the result of `Demangle::path_len` for the same text.
-///
-/// A suffix that ThinLTO appended is removed first. For every text and every number, the call ends,
-/// and it prints at most the bytes of the limit, the marker and the text. An ASCII text with a v0
-/// prefix prints its first path as far as the grammar accepts it, and then the text from `path_len`
-/// on. Any other text prints as `demangle` prints it. It does not allocate.
-///
-/// # Errors
-///
-/// Fails exactly if the sink failed during this call.
-pub fn write_with_path_len<S: TextSink>(
-    text: &str,
-    path_len: usize,
-    out: &mut S,
-    include_hash: bool,
-    limit: usize,
-) -> Result<(), SinkRefused>
-    requires { S.failed out.old ≡ false }
-    ensures { Writes S.TextSink out.old
-        (handed_with_path_len (stripped text.now) path_len include_hash limit) result out.new }
-{
-    write_pieces_with_path_len(without_thin_lto(text), path_len, out, include_hash, limit)
 }

@@ -192,11 +192,7 @@ fn texts_are_written_in_a_format(rt: HostRuntime) -> Result<(), Fail> {
 
 #[test]
 fn a_text_is_folded_into_a_sink(rt: HostRuntime) {
-    let format = Format {
-        include_hash: false,
-        fold_arguments: true,
-        limit: 10,
-    };
+    let format = Format::folded(false, 10);
     let mut sink: ArraySink<256> = ArraySink::new();
     let result = demangle_text_formatted("x _RINvC3foo3barhE y", &mut sink, format);
     assert!(rt; result.is_ok());

@@ -131,11 +131,7 @@ pub fn demangle_bytes_limited<R: BufRead, W: Write>(
         BytesStopped (filtered_within include_hash limit) fault text
         (W.contents output.old) (W.contents output.new))) }
 {
-    let format = Format {
-        include_hash,
-        fold_arguments: false,
-        limit,
-    };
+    let format = Format::unfolded(include_hash, limit);
     demangle_bytes_formatted(alloc, input, output, format)
 }
 

@@ -9,7 +9,8 @@ ghost use Rattle.text_memo.specs.Memo.{Remembers};
 use crate::format::Format;
 use crate::stream::buffer_sink::BufferSink;
 use crate::stream::line_writer::write_run;
-use crate::value::{Demangle, print_v0_run};
+use crate::value::Demangle;
+use crate::value::printing::print_v0_run;
 use piece_buffer::PieceBuffer;
 use std::alloc::Global;
 use std::io;
@@ -188,11 +189,7 @@ impl SymbolMemo {
     pub fn new(alloc: Global, include_hash: bool, limit: usize) -> Self
         ensures { result ≡ unfolded include_hash limit }
     {
-        let format = Format {
-            include_hash,
-            fold_arguments: false,
-            limit,
-        };
+        let format = Format::unfolded(include_hash, limit);
         SymbolMemo::with_format(alloc, format)
     }
 

@@ -1,4 +1,4 @@
-use Rattle.demangle_v0.specs.Parsers.{form_of}
+use Rattle.demangle_v0.specs.Parsers.{source_form}
 use Rattle.std.proofs.Common.{true, false, arith, refl}
 use Rattle.demangle_v0.proofs.TypeSteps.{encloses}
 use Rattle.demangle_v0_grammar.specs.Items.{a_type}
@@ -44,7 +44,7 @@ returns-in-Slice g c = record {
 pub returns-in-Backref : goal.returns-in-Backref
 returns-in-Backref g c =
     let s = c.args.self.now.state in
-    let d = c.follow_backref.ensures.performs true a_type false (unit_type c.args.self.now.source.symbol.now (form_of c.args.self.now.source) s.in_value s.letter s.lifetimes) in
+    let d = c.follow_backref.ensures.performs true a_type false (unit_type c.args.self.now.source.symbol.now (source_form c.args.self.now.source) s.in_value s.letter s.lifetimes) in
     record { performs = rw c.in-Backref.is (record { does = alike (omega arith) refl (omega arith) (omega arith) d.does; same = d.same }) }
 
 pub returns-in-Function : goal.returns-in-Function

@@ -4,7 +4,7 @@ use Rattle.demangle_v0.specs.declared.parser.Continuation.TheVariants as continu
 use Rattle.demangle_v0_tokens.specs.declared.token.TokenKind.TheVariants as token_kind
 use Rattle.demangle_v0.proofs.StepErrors.{stops}
 use Rattle.demangle_v0.proofs.Parsers.{advanced}
-use Rattle.demangle_v0.proofs.FunctionSteps.{parameters}
+use Rattle.demangle_v0_grammar.specs.Table.{parameters}
 use Rattle.demangle_v0.proofs.StepCases.{token_continues, token_bare, token_refuses, word_stops}
 use Rattle.demangle_v0.proofs.PrimitiveLooks.{group_tight, own_more}
 use Rattle.demangle_v0.proofs.parser.machine.Parser.function_qualifiers.Goals as goal

@@ -1,5 +1,5 @@
 use Rattle.std.proofs.Common.{Ok, Some, arith, refl, sym, ◌∙◌}
-use Rattle.demangle_v0.specs.Parsers.{form_of, Same}
+use Rattle.demangle_v0.specs.Parsers.{source_form, Same}
 use Rattle.demangle_v0.specs.Loops.{printing}
 use Rattle.demangle_v0.proofs.Parsers.{left_as, stepped_as}
 use Rattle.demangle_v0.proofs.LoopLemmas.{valid_resumes, resumes_length, valid_steps, machine_less, first_resumes, ran_then, ran_resumes, ran_machine, ran_broke}
@@ -32,7 +32,7 @@ steps-preserved-then-is_skipped g c =
     record {
       ready = c.steps.invariant.ready;
       valid = skipped_valid skips z (valid_resumes c.steps.invariant.valid c.in-Some.ensures.some);
-      ran = ran_skips g.S.TextSink c.args.self.now.source.symbol.now (form_of c.args.self.now.source) skips (ran_then c.steps.invariant.ran (ran_resumes c.in-Some.ensures.some)) z;
+      ran = ran_skips g.S.TextSink c.args.self.now.source.symbol.now (source_form c.args.self.now.source) skips (ran_then c.steps.invariant.ran (ran_resumes c.in-Some.ensures.some)) z;
       same = (c.in_default-skipped.ensures.same.0 ∙ same.0, c.in_default-skipped.ensures.same.1 ∙ same.1, c.in_default-skipped.ensures.same.2 ∙ same.2);
       grows = omega (arith, c.steps.invariant.grows, c.in-Some.ensures.looks, c.in_default-skipped.ensures.grows);
       least = omega (arith, c.steps.invariant.least, c.in-Some.ensures.looks, c.in_default-skipped.ensures.grows, first_resumes c.in-Some.ensures.some, skip_unread c.args.self.now.source.fold_arguments _ c.resume.new.self.state skips);
@@ -46,18 +46,18 @@ step-requires g c =
 
 pub returns-in_err-continuation-clause-ran : goal.returns-in_err-continuation-clause-ran
 returns-in_err-continuation-clause-ran g c =
-    let d = stepped_as (printing g.S.TextSink c.args.self.now.source.symbol.now (form_of c.args.self.now.source)).output c.args.self.now c.resume.new.self (c.in-Some.ensures.same.0 ∙ c.steps.invariant.same.0, c.in-Some.ensures.same.1 ∙ c.steps.invariant.same.1, c.in-Some.ensures.same.2 ∙ c.steps.invariant.same.2) c.in_err-continuation.ensures.stepped in
+    let d = stepped_as (printing g.S.TextSink c.args.self.now.source.symbol.now (source_form c.args.self.now.source)).output c.args.self.now c.resume.new.self (c.in-Some.ensures.same.0 ∙ c.steps.invariant.same.0, c.in-Some.ensures.same.1 ∙ c.steps.invariant.same.1, c.in-Some.ensures.same.2 ∙ c.steps.invariant.same.2) c.in_err-continuation.ensures.stepped in
     ran_fail c.from_residual.ensures.0 (ran_broke c.steps.invariant.ran c.in-Some.ensures.some (rw c.in-Some.ensures.looks at d))
 
 pub steps-smaller : goal.steps-smaller
 steps-smaller g c =
-    let d = stepped_as (printing g.S.TextSink c.args.self.now.source.symbol.now (form_of c.args.self.now.source)).output c.args.self.now c.resume.new.self (c.in-Some.ensures.same.0 ∙ c.steps.invariant.same.0, c.in-Some.ensures.same.1 ∙ c.steps.invariant.same.1, c.in-Some.ensures.same.2 ∙ c.steps.invariant.same.2) c.in_ok-continuation.ensures.stepped in
+    let d = stepped_as (printing g.S.TextSink c.args.self.now.source.symbol.now (source_form c.args.self.now.source)).output c.args.self.now c.resume.new.self (c.in-Some.ensures.same.0 ∙ c.steps.invariant.same.0, c.in-Some.ensures.same.1 ∙ c.steps.invariant.same.1, c.in-Some.ensures.same.2 ∙ c.steps.invariant.same.2) c.in_ok-continuation.ensures.stepped in
     machine_less c.in-Some.ensures.some d
 
 pub steps-preserved : goal.steps-preserved
 steps-preserved g c =
     let same : Same c.args.self.now c.resume.new.self = (c.in-Some.ensures.same.0 ∙ c.steps.invariant.same.0, c.in-Some.ensures.same.1 ∙ c.steps.invariant.same.1, c.in-Some.ensures.same.2 ∙ c.steps.invariant.same.2) in
-    let d = stepped_as (printing g.S.TextSink c.args.self.now.source.symbol.now (form_of c.args.self.now.source)).output c.args.self.now c.resume.new.self (c.in-Some.ensures.same.0 ∙ c.steps.invariant.same.0, c.in-Some.ensures.same.1 ∙ c.steps.invariant.same.1, c.in-Some.ensures.same.2 ∙ c.steps.invariant.same.2) c.in_ok-continuation.ensures.stepped in
+    let d = stepped_as (printing g.S.TextSink c.args.self.now.source.symbol.now (source_form c.args.self.now.source)).output c.args.self.now c.resume.new.self (c.in-Some.ensures.same.0 ∙ c.steps.invariant.same.0, c.in-Some.ensures.same.1 ∙ c.steps.invariant.same.1, c.in-Some.ensures.same.2 ∙ c.steps.invariant.same.2) c.in_ok-continuation.ensures.stepped in
     record {
       ready = c.in_ok-continuation.ensures.ready refl;
       valid = valid_steps (valid_resumes c.steps.invariant.valid c.in-Some.ensures.some) d;

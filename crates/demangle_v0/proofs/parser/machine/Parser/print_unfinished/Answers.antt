@@ -1,4 +1,4 @@
-use Rattle.demangle_v0.specs.Parsers.{form_of}
+use Rattle.demangle_v0.specs.Parsers.{source_form}
 use Rattle.std.proofs.Common.{Ok, Some, arith}
 use Rattle.demangle_v0.proofs.Parsers.{left_as}
 use Rattle.demangle_v0.proofs.PrintLoop.{passed_ran, passed_valid, ran_joins, finished_ran, finished_valid}
@@ -10,14 +10,14 @@ returns-in-Some-clause-ran g c = λ p began ran. finished_ran g.row.N c.args.lef
 pub returns-in-Some-clause-valid : goal.returns-in-Some-clause-valid
 returns-in-Some-clause-valid g c =
     let d = c.in-Some.ensures in
-    left_as g.row.N c.args.self.now c.finish_impl_path.new.self (Ok (Some c.in-Some.more)) d.same (finished_valid c.args.self.now.source.symbol.now (form_of c.args.self.now.source) 0 g.row.N _ _ c.args.left c.in-Some.more _ _ _ _ c.requires.valid d.finishes)
+    left_as g.row.N c.args.self.now c.finish_impl_path.new.self (Ok (Some c.in-Some.more)) d.same (finished_valid c.args.self.now.source.symbol.now (source_form c.args.self.now.source) 0 g.row.N _ _ c.args.left c.in-Some.more _ _ _ _ c.requires.valid d.finishes)
 
 pub print_steps-requires : goal.print_steps-requires
 print_steps-requires g c =
     let d = c.in_default.ensures in
-    (omega arith, (rw d.same.0 c.requires.ascii, (c.requires.ready, passed_valid c.args.self.now.source.symbol.now (form_of c.args.self.now.source) _ _ 0 c.args.left _ _ _ _ c.requires.valid d.finishes)))
+    (omega arith, (rw d.same.0 c.requires.ascii, (c.requires.ready, passed_valid c.args.self.now.source.symbol.now (source_form c.args.self.now.source) _ _ 0 c.args.left _ _ _ _ c.requires.valid d.finishes)))
 
 pub returns-clause-ran : goal.returns-clause-ran
 returns-clause-ran g c =
     let d = c.in_default.ensures in
-    λ p began ran. ran_joins _ (passed_ran g.S.TextSink c.args.self.now.source.symbol.now (form_of c.args.self.now.source) c.args.left ran d.finishes) (rw (d.same.0, d.same.1, d.same.2) at c.print_steps.ensures.ran)
+    λ p began ran. ran_joins _ (passed_ran g.S.TextSink c.args.self.now.source.symbol.now (source_form c.args.self.now.source) c.args.left ran d.finishes) (rw (d.same.0, d.same.1, d.same.2) at c.print_steps.ensures.ran)

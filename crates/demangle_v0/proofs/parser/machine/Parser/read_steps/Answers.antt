@@ -1,4 +1,4 @@
-use Rattle.demangle_v0.specs.Parsers.{form_of}
+use Rattle.demangle_v0.specs.Parsers.{source_form}
 use Rattle.std.proofs.Common.{arith, refl, ◌∙◌}
 use Rattle.std.proofs.lemmas.Bool.{false≢true}
 use Rattle.demangle_v0.specs.Loops.{no_output_env}
@@ -13,12 +13,12 @@ step-requires g c =
 
 pub steps-smaller : goal.steps-smaller
 steps-smaller g c =
-    let d = stepped_as (no_output_env c.args.self.now.source.symbol.now (form_of c.args.self.now.source)).output c.args.self.now c.resume.new.self (c.in-Some.ensures.same.0 ∙ c.steps.invariant.same.0, c.in-Some.ensures.same.1 ∙ c.steps.invariant.same.1, c.in-Some.ensures.same.2 ∙ c.steps.invariant.same.2) c.in-Ok.ensures.stepped in
+    let d = stepped_as (no_output_env c.args.self.now.source.symbol.now (source_form c.args.self.now.source)).output c.args.self.now c.resume.new.self (c.in-Some.ensures.same.0 ∙ c.steps.invariant.same.0, c.in-Some.ensures.same.1 ∙ c.steps.invariant.same.1, c.in-Some.ensures.same.2 ∙ c.steps.invariant.same.2) c.in-Ok.ensures.stepped in
     machine_less c.in-Some.ensures.some d
 
 pub steps-preserved : goal.steps-preserved
 steps-preserved g c =
-    let d = stepped_as (no_output_env c.args.self.now.source.symbol.now (form_of c.args.self.now.source)).output c.args.self.now c.resume.new.self (c.in-Some.ensures.same.0 ∙ c.steps.invariant.same.0, c.in-Some.ensures.same.1 ∙ c.steps.invariant.same.1, c.in-Some.ensures.same.2 ∙ c.steps.invariant.same.2) c.in-Ok.ensures.stepped in
+    let d = stepped_as (no_output_env c.args.self.now.source.symbol.now (source_form c.args.self.now.source)).output c.args.self.now c.resume.new.self (c.in-Some.ensures.same.0 ∙ c.steps.invariant.same.0, c.in-Some.ensures.same.1 ∙ c.steps.invariant.same.1, c.in-Some.ensures.same.2 ∙ c.steps.invariant.same.2) c.in-Ok.ensures.stepped in
     record {
       valid = valid_steps (valid_resumes c.steps.invariant.valid c.in-Some.ensures.some) d;
       reads = λ below above e l i. reads_machine refl (c.steps.invariant.reads below above e l i) l c.in-Some.ensures.some (rw c.in-Some.ensures.looks at d);
@@ -28,5 +28,5 @@ steps-preserved g c =
 
 pub returns-in-Err-clause-reads : goal.returns-in-Err-clause-reads
 returns-in-Err-clause-reads g c =
-    let d = stepped_as (no_output_env c.args.self.now.source.symbol.now (form_of c.args.self.now.source)).output c.args.self.now c.resume.new.self (c.in-Some.ensures.same.0 ∙ c.steps.invariant.same.0, c.in-Some.ensures.same.1 ∙ c.steps.invariant.same.1, c.in-Some.ensures.same.2 ∙ c.steps.invariant.same.2) c.in-Err.ensures.stepped in
+    let d = stepped_as (no_output_env c.args.self.now.source.symbol.now (source_form c.args.self.now.source)).output c.args.self.now c.resume.new.self (c.in-Some.ensures.same.0 ∙ c.steps.invariant.same.0, c.in-Some.ensures.same.1 ∙ c.steps.invariant.same.1, c.in-Some.ensures.same.2 ∙ c.steps.invariant.same.2) c.in-Err.ensures.stepped in
     λ below above e l i. reads_fail (c.steps.invariant.reads below above e l i) l c.in-Some.ensures.some (rw c.in-Some.ensures.looks at d)

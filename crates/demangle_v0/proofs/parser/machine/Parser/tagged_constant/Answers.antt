@@ -1,4 +1,4 @@
-use Rattle.demangle_v0.specs.Parsers.{form_of}
+use Rattle.demangle_v0.specs.Parsers.{source_form}
 use Rattle.std.proofs.Common.{true, arith, refl}
 use Rattle.demangle_v0_grammar.specs.Items.{a_constant}
 use Rattle.demangle_v0_grammar.specs.Reading.{parse}
@@ -138,7 +138,7 @@ pub returns-in-Backref : goal.returns-in-Backref
 returns-in-Backref g c =
     let m = c.args.self.now in
     let d = c.follow_backref.ensures.performs true a_constant m.state.in_value
-    (unit_constant m.source.symbol.now (form_of m.source) m.state.in_value m.state.letter m.state.lifetimes) in
+    (unit_constant m.source.symbol.now (source_form m.source) m.state.in_value m.state.letter m.state.lifetimes) in
     record {
       performs = record {
         does = constant_as c.args.tag kind.Backref

@@ -1,4 +1,4 @@
-use Rattle.demangle_v0.specs.Parsers.{form_of}
+use Rattle.demangle_v0.specs.Parsers.{source_form}
 use Rattle.std.proofs.Common.{true, arith, refl}
 use Rattle.demangle_v0_grammar.specs.Items.{a_path}
 use Rattle.demangle_v0.specs.Traces.{trace_at}
@@ -59,7 +59,7 @@ pub returns-in-Backref : goal.returns-in-Backref
 returns-in-Backref g c =
     let s = c.args.self.now.state in
     let d = c.follow_backref.ensures.performs true a_path s.in_value (unit_path c.args.self.now.source.symbol.now
-    (form_of c.args.self.now.source) s.in_value s.letter s.lifetimes) in
+    (source_form c.args.self.now.source) s.in_value s.letter s.lifetimes) in
     record {
       performs = record {
         does = path_as c.args.tag kind.Backref (rw (

@@ -1,4 +1,4 @@
-use Rattle.demangle_v0.specs.Parsers.{form_of}
+use Rattle.demangle_v0.specs.Parsers.{source_form}
 use Rattle.std.proofs.Common.{false, arith, refl, sym, ◌∙◌}
 use Rattle.demangle_v0_grammar.specs.Items.{a_trait_path}
 use Rattle.demangle_v0.specs.Traces.{trace_at}
@@ -19,7 +19,7 @@ returns-in_err-at g c = let failed = c.in_err-at.ensures.failed in record {
 
 pub returns-then-is_at : goal.returns-then-is_at
 returns-then-is_at g c =
-    let d = c.follow_backref.ensures.performs false a_trait_path false (unit_trait _ (form_of c.args.self.now.source) _ _ _) in
+    let d = c.follow_backref.ensures.performs false a_trait_path false (unit_trait _ (source_form c.args.self.now.source) _ _ _) in
     record {
       performs = record {
         does = trait_refers c.in_ok-at.at c.in_ok-at.ensures.ok (rw c.is_at.ensures.there at c.if-is_at.true)

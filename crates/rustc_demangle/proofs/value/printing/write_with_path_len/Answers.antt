@@ -1,5 +1,5 @@
 use Rattle.demangle_sink.proofs.Writing.{puts_writes}
-use Rattle.rustc_demangle.proofs.value.write_with_path_len.Goals as goal
+use Rattle.rustc_demangle.proofs.value.printing.write_with_path_len.Goals as goal
 
 pub returns : goal.returns
 returns g c =

@@ -18,8 +18,8 @@ use Rattle.rustc_demangle.proofs.MemoLemmas.{symbol_replaced}
 use Rattle.rustc_demangle.proofs.PrintingLaws.{handed-some_of}
 use Rattle.rustc_demangle.proofs.Stripping.{IsAscii-stripped}
 use Rattle.rustc_demangle.proofs.SymbolLemmas.{pieces-v0}
-use Rattle.rustc_demangle.proofs.value.print_v0_run.Goals as goal
-use Rattle.rustc_demangle.proofs.value.print_v0_run.Goals.{then-is_allowed, else-is_allowed}
+use Rattle.rustc_demangle.proofs.value.printing.print_v0_run.Goals as goal
+use Rattle.rustc_demangle.proofs.value.printing.print_v0_run.Goals.{then-is_allowed, else-is_allowed}
 
 -- the text that a v0 symbol prints replaces its run
 v0_replaced : (run text inner suffix : List ℕ) (format : Format) → text ≡ stripped run → v0_of text ≡ Some (inner, suffix) → is_allowed suffix ≡ true

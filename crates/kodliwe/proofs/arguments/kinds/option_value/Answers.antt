@@ -1,7 +1,7 @@
 use Rattle.std.proofs.Common.{rules, ◌≡◌, ◌++◌, ◌∷◌, ℕ, List}
 use Rattle.kodliwe.proofs.ArgumentLemmas.{not_alone, no_value, no_long_value}
-use Rattle.kodliwe.proofs.arguments.option_value.Goals as goal
-use Rattle.kodliwe.proofs.arguments.option_value.Goals.{in-Some+in_default-strip_prefix, in_default}
+use Rattle.kodliwe.proofs.arguments.kinds.option_value.Goals as goal
+use Rattle.kodliwe.proofs.arguments.kinds.option_value.Goals.{in-Some+in_default-strip_prefix, in_default}
 
 pub returns-in-None-clause-none : goal.returns-in-None-clause-none
 returns-in-None-clause-none c =

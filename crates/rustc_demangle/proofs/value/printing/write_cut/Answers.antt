@@ -1,6 +1,6 @@
 use Rattle.std.proofs.Common.{rules, sym}
 use Rattle.demangle_sink.proofs.PrintsLemmas.{prints_cut_over, prints_cut_all}
-use Rattle.rustc_demangle.proofs.value.write_cut.Goals as goal
+use Rattle.rustc_demangle.proofs.value.printing.write_cut.Goals as goal
 
 pub returns-then-is_limit_reached-clause-hands : goal.returns-then-is_limit_reached-clause-hands
 returns-then-is_limit_reached-clause-hands g c =

@@ -1,7 +1,7 @@
 use Rattle.std.proofs.Common.{◌∷◌, [], drop, refl, ap, ◌∙◌}
 use Rattle.demangle_sink.proofs.PutsPiecesLemmas.{puts_then, puts_stop}
 use Rattle.rustc_demangle.proofs.PathEndLaws.{handed_with_path_len-none, handed_with_path_len-cut, v0_ascii-none}
-use Rattle.rustc_demangle.proofs.value.write_pieces_with_path_len.Goals as goal
+use Rattle.rustc_demangle.proofs.value.printing.write_pieces_with_path_len.Goals as goal
 
 pub returns-in_default : goal.returns-in_default
 returns-in_default g c =
