@@ -24,7 +24,7 @@ enum Property {
     GraphemeExtend,
 }
 
-/// Returns the number of a category in the table, or 0 if no literal asks for it.
+/// Returns the number of a category in the table, or 0 if no literal needs it.
 fn category_number(category: GeneralCategory) -> u8 {
     match category {
         GeneralCategory::SpaceSeparator => 1,

@@ -85,7 +85,7 @@ all_prefix (c ∷ s) = at (all_prefix s) (is_run_byte c) refl
         ap (λ n. list_all is_run_byte (take n (c ∷ s))) one ∙ ap (λ b. b && list_all is_run_byte (take (prefix_len is_run_byte s) s)) e ∙ ih
     at ih false e = refl
 
--- the bytes that are split off are a run
+-- the bytes that are split off are run bytes
 pub all_cut : (found bytes run : List ℕ) (n : ℕ) → bytes ≡ found → n ≡ prefix_len is_run_byte bytes → run ≡ take n found → list_all is_run_byte run ≡ true
 all_cut found bytes run n same len prefix = ap (list_all is_run_byte) (prefix ∙ ap (λ k. take k found) (len ∙ ap (prefix_len is_run_byte) same)) ∙ all_prefix found
 
@@ -359,7 +359,7 @@ uncut_none text last both none more k lt =
     (λ e. let at : k ≡ length text - 2 = omega (arith, ap length e, len) in
     true≢false (ap (pointwise nat_eq (codes "_Z")) (sym e ∙ ap (λ n. drop n text) at) ∙ sym both))
 
--- a text of at least three bytes starts a run, or does not whatever follows
+-- no run starts before the first one that was found, whatever follows
 pub far : (available : List ℕ) (start : ℕ) → starts_run (drop start available) ≡ true → ((k : ℕ) → k < start → starts_run (drop k available) ≡ false)
     → (more : List ℕ) (k : ℕ) → k < start → starts_run (drop k available ++ more) ≡ false
 far available start some none more k lt =

@@ -48,7 +48,8 @@ fn copy_line<R: BufRead, W: Write, A: Allocator>(
     }
 }
 
-/// Copies lines up to the end of the input, with `line` as the buffer. Fails as `copy_line` does.
+/// Copies all lines of the input with their symbols demangled. `line` is the buffer. Fails as
+/// `copy_line` does.
 fn copy_lines<R: BufRead, W: Write, A: Allocator>(
     input: &mut R,
     output: &mut W,

@@ -1,4 +1,4 @@
-//! Prints names.
+//! Prints names, decoded if they have a Punycode part.
 ghost use Rattle.std.specs.Prelude.{◌+◌, ◌<◌, ◌≤◌, IsAscii};
 ghost use Rattle.demangle_symbol.specs.Idents.{IsIdentWithin, ascii_prefix, name_in, name_size};
 ghost use Rattle.demangle_sink.specs.Limit.{Prints, Ready};

@@ -298,7 +298,7 @@ const RUNS: [(&[u8], usize, &[u8], &[u8]); 18] = [
         b"_RINvC5crate7generichE_not_allowed",
         b"_RINvC5crate7generichE_not_allowed",
     ),
-    // The limit cuts the folded list, or leaves it whole, or leaves nothing.
+    // The limit cuts the folded list, keeps all of it, or keeps nothing.
     (
         b"_RINvC5crate7generichE.cold",
         18,

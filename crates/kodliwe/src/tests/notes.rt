@@ -34,7 +34,7 @@ const WITH_MAGIC_NUMBER: [(&[u8], &[u8]); 5] = [
 /// The number of bytes of the shortest prefix that is noted.
 const LENGTHS: [usize; 5] = [2, 4, 6, 2, 2];
 
-/// Asserts what is noted about the text of a reader, of which all that is no symbol is copied.
+/// Asserts the notes on the text of a reader. All text that is not a symbol is copied.
 fn assert_note(
     rt: &impl Abort,
     alloc: Global,

@@ -4,6 +4,7 @@
 use crate::demangle_sink::{SizeLimitedFmtAdapter, TextSink};
 use crate::demangle_symbol::cursor::{Looks, ParseError, Symbol};
 use crate::demangle_v0::validation::{begins_path, print_to_suffix, suffix_at};
+use crate::demangle_v0_tokens::source::Source;
 
 mod parser;
 mod printer;
@@ -78,8 +79,9 @@ pub fn demangle<'s>(
     Ok((Demangle::new(symbol), &inner[end..]))
 }
 
-/// Reads a v0 symbol and prints its first path, in one pass over the path. Returns the symbol and
-/// the suffix after its paths. The text must be ASCII.
+/// Reads a v0 symbol and prints its first path, in one pass over the path: with hashes or without
+/// them, and with its generic arguments or with `_` for them. Returns the symbol and the suffix
+/// after its paths. The text must be ASCII.
 ///
 /// Returns `None` if the text is not a v0 symbol. Also returns `None` if a lifetime or a reference
 /// of the path has an error, if the limit or the sink rejects a piece, or if the path is nested
@@ -89,13 +91,19 @@ pub fn demangle_printed<'s, S: TextSink>(
     s: &'s str,
     out: &mut SizeLimitedFmtAdapter<'_, S>,
     include_hash: bool,
-    looks: &mut Looks,
+    fold_arguments: bool,
 ) -> Option<(Demangle<'s>, &'s str)> {
-    let inner = ascii_inner_of(s, true, looks)?;
+    let mut looks = Looks::new();
+    let inner = ascii_inner_of(s, true, &mut looks)?;
     let symbol = Symbol::new(inner);
-    if !begins_path(&symbol, 0, looks) {
+    if !begins_path(&symbol, 0, &mut looks) {
         return None;
     }
-    let end = print_to_suffix(&symbol, out, include_hash, looks)?;
+    let source = Source {
+        symbol: &symbol,
+        include_hash,
+        fold_arguments,
+    };
+    let end = print_to_suffix(source, out, &mut looks)?;
     Some((Demangle::new(symbol), &inner[end..]))
 }

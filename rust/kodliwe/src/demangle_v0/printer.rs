@@ -1,5 +1,5 @@
 // Made from crates/demangle_v0/src/printer.rt by packaging/crate/erase.py: edit that file instead.
-//! Printing: steps, each of which prints what it reads as soon as it is known.
+//! Prints the first path of a v0 symbol. Each step prints what it reads as soon as it is known.
 
 use crate::demangle_sink::{SinkRefused, SizeLimitedFmtAdapter, TextSink};
 use crate::demangle_v0::parser::Continuation;

@@ -1,5 +1,5 @@
 // Made from crates/demangle_v0/src/validation.rt by packaging/crate/erase.py: edit that file instead.
-//! Acceptance of v0 symbols: parses without output.
+//! Validates v0 symbols: parses them without output, and finds the suffix.
 
 use crate::demangle_sink::{SizeLimitedFmtAdapter, TextSink};
 use crate::demangle_symbol::cursor::{Looks, Symbol};
@@ -113,19 +113,15 @@ pub fn begins_path(symbol: &Symbol<'_>, place: usize, looks: &mut Looks) -> bool
 /// Returns `None` after a syntax error, if the limit or the sink rejects a piece, or if the first
 /// stack is too short. Then an unknown part of the path may be printed.
 pub fn print_to_suffix<S: TextSink>(
-    symbol: &Symbol<'_>,
+    source: Source<'_>,
     out: &mut SizeLimitedFmtAdapter<'_, S>,
-    include_hash: bool,
     looks: &mut Looks,
 ) -> Option<usize> {
-    let source = Source {
-        symbol,
-        include_hash,
-        fold_arguments: false,
-    };
     let mut parser: Parser<SHORT_STACK> = Parser::at_path(source, 0, looks);
     let end = parser.print_to_place(out)?;
-    if begins_path(symbol, end, &mut parser.looks) {
+    if begins_path(source.symbol, end, &mut parser.looks) {
+        // Arguments are folded only when they are printed.
+        parser.source.fold_arguments = false;
         return parser.path_end(end);
     }
     Some(end)

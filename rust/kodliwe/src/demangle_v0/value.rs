@@ -1,5 +1,5 @@
 // Made from crates/demangle_v0/src/value.rt by packaging/crate/erase.py: edit that file instead.
-//! A v0 symbol that was read, and how its first path is printed.
+//! A v0 symbol that was read. It prints its first path.
 
 use crate::demangle_sink::{SinkRefused, SizeLimitedFmtAdapter, TextSink};
 use crate::demangle_symbol::cursor::{Looks, Symbol};

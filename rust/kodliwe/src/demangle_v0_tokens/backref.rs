@@ -1,5 +1,5 @@
 // Made from crates/demangle_v0_tokens/src/backref.rt by packaging/crate/erase.py: edit that file instead.
-//! Back references.
+//! Reads back references.
 
 use crate::demangle_symbol::cursor::{Looks, MAX_DEPTH, ParseError, Symbol};
 use crate::demangle_v0_tokens::fixed_texts::FixedText;

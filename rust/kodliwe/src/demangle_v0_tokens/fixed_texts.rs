@@ -1,5 +1,5 @@
 // Made from crates/demangle_v0_tokens/src/fixed_texts.rt by packaging/crate/erase.py: edit that file instead.
-//! The fixed texts of v0 symbols, and the kinds of tokens.
+//! The fixed texts of v0 symbols.
 
 /// A fixed text, such as `, ` or `{invalid syntax}`.
 #[derive(Clone, Copy)]

@@ -1,5 +1,5 @@
 // Made from crates/demangle_v0_tokens/src/read.rt by packaging/crate/erase.py: edit that file instead.
-//! The tokens of a v0 symbol that are read in one step.
+//! Reads the tokens of a v0 symbol. One step reads at most one.
 
 use crate::demangle_symbol::cursor::{Looks, Symbol};
 use crate::demangle_v0_tokens::fixed_texts::FixedText;

@@ -1,5 +1,5 @@
 // Made from crates/demangle_v0_tokens/src/render.rt by packaging/crate/erase.py: edit that file instead.
-//! How a token is printed, piece by piece.
+//! Prints tokens, piece by piece.
 
 use crate::demangle_sink::{SinkRefused, SizeLimitedFmtAdapter, TextSink, put_each};
 use crate::demangle_symbol::cursor::Looks;

@@ -1,5 +1,5 @@
 // Made from crates/demangle_v0_tokens/src/token.rt by packaging/crate/erase.py: edit that file instead.
-//! Tokens: what a step prints at once, if it is not a pending text.
+//! The tokens of v0 symbols, each of which a step prints at once, and the kinds that are read.
 use crate::demangle_symbol::cursor::{Ident, Part};
 use crate::demangle_v0_tokens::fixed_texts::FixedText;
 

@@ -299,20 +299,19 @@ impl<'a> Demangle<'a> {
 /// Returns `false` if the run is not a v0 symbol, as `demangle_v0::demangle_printed` does. Then an
 /// unknown part of the symbol may be in the sink, and `Demangle::read_run` says what the run is.
 #[inline(never)]
-pub(crate) fn print_v0_run<S: TextSink>(
-    run: &str,
-    out: &mut S,
-    include_hash: bool,
-    limit: usize,
-) -> bool {
+pub(crate) fn print_v0_run<S: TextSink>(run: &str, out: &mut S, format: Format) -> bool {
     let text = without_thin_lto(run);
-    let mut looks = Looks::new();
-    let mut limited = SizeLimitedFmtAdapter::new(out, limit);
-    let read = crate::demangle_v0::demangle_printed(text, &mut limited, include_hash, &mut looks);
+    let mut limited = SizeLimitedFmtAdapter::new(out, format.limit);
+    let read = crate::demangle_v0::demangle_printed(
+        text,
+        &mut limited,
+        format.include_hash,
+        format.fold_arguments,
+    );
     let Some((_, suffix)) = read else {
         return false;
     };
-    is_allowed(suffix, &mut looks) && put_piece(suffix, out).is_ok()
+    is_allowed(suffix, &mut Looks::new()) && put_piece(suffix, out).is_ok()
 }
 
 /// Prints a text into a sink; its path has `path_len` bytes. Fails if the sink fails.

@@ -44,7 +44,7 @@ struct Pair {
     older: Entry,
 }
 
-/// A free entry, since a key is never empty.
+/// A free entry. It has an empty key, which no other entry has.
 const NO_ENTRY: Entry = Entry {
     start: 0,
     key_len: 0,

@@ -178,7 +178,8 @@ impl<'a> Request<'a> {
         }
     }
 
-    /// Adds a symbol as a separate line. Fails if memory can't be allocated.
+    /// Adds a symbol as a separate line. Stores it as `plain_argument` if it is the first that the
+    /// filter does not change. Fails if memory can't be allocated.
     fn add_symbol(&mut self, alloc: Global, symbol: &'a str) -> Result<(), AllocError> {
         if self.plain_argument.is_none() && !has_symbol(alloc, symbol)? {
             self.plain_argument = Some(symbol);

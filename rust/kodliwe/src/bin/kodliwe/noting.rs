@@ -33,7 +33,7 @@ fn note_line(alloc: Global, name: &str, remark: &str) -> Result<String, AllocErr
     format!(in alloc; "kodliwe: note: {name} looks {remark}\n")
 }
 
-/// A reader of an input that writes a note if the first chunk begins with one of the marks.
+/// A reader of an input that writes a note if the first chunk begins with one of the magic numbers.
 pub struct NotingReader<'a, 'e, R, E: Write> {
     alloc: Global,
     name: &'a str,
@@ -55,8 +55,8 @@ impl<'a, 'e, R: Read, E: Write> NotingReader<'a, 'e, R, E> {
         }
     }
 
-    /// Writes a note if the first chunk begins with one of the marks. The note is left out if
-    /// memory can't be allocated. An error of `errors` is ignored.
+    /// Writes a note if the first chunk begins with one of the magic numbers. The note is left out
+    /// if memory can't be allocated. An error of `errors` is ignored.
     fn note(&mut self, chunk: &[u8]) {
         let Some(remark) = remark_on(chunk) else {
             return;

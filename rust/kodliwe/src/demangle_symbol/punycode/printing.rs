@@ -1,5 +1,5 @@
 // Made from crates/demangle_symbol/src/punycode/printing.rt by packaging/crate/erase.py: edit that file instead.
-//! Prints names.
+//! Prints names, decoded if they have a Punycode part.
 
 use crate::demangle_sink::{SinkRefused, SizeLimitedFmtAdapter, TextSink, put_chars};
 use crate::demangle_symbol::cursor::{Ident, Looks, Part, Symbol};

@@ -1,5 +1,5 @@
 // Made from crates/demangle_v0/src/parser/arguments.rt by packaging/crate/erase.py: edit that file instead.
-//! Generic arguments.
+//! Continuations of generic arguments.
 
 use crate::demangle_v0::parser::Continuation;
 use crate::demangle_v0::parser::lists::separator;

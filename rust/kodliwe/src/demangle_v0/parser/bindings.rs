@@ -1,5 +1,5 @@
 // Made from crates/demangle_v0/src/parser/bindings.rt by packaging/crate/erase.py: edit that file instead.
-//! The bindings of a dyn trait path.
+//! Continuations of the bindings of a dyn trait path.
 
 use crate::demangle_v0::parser::machine::Parser;
 use crate::demangle_v0::parser::{Continuation, StepError};

@@ -1,5 +1,5 @@
 // Made from crates/demangle_v0/src/parser/constant_lists.rt by packaging/crate/erase.py: edit that file instead.
-//! Lists of constants: arrays, tuples and the fields of variants.
+//! Continuations of lists of constants: arrays, tuples and the fields of variants.
 
 use crate::demangle_v0::parser::Continuation;
 use crate::demangle_v0::parser::machine::Parser;

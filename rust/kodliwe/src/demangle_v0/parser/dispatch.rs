@@ -1,5 +1,5 @@
 // Made from crates/demangle_v0/src/parser/dispatch.rt by packaging/crate/erase.py: edit that file instead.
-//! Which method performs each continuation.
+//! Calls the method of each continuation.
 
 use crate::demangle_v0::parser::constant_lists::ConstantList;
 use crate::demangle_v0::parser::machine::Parser;

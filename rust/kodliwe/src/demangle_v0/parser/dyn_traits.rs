@@ -1,5 +1,5 @@
 // Made from crates/demangle_v0/src/parser/dyn_traits.rt by packaging/crate/erase.py: edit that file instead.
-//! Trait objects: `dyn` types.
+//! Continuations of trait objects, which are `dyn` types.
 
 use crate::demangle_v0::parser::lists::separator;
 use crate::demangle_v0::parser::machine::Parser;

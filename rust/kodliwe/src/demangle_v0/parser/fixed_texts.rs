@@ -16,7 +16,8 @@ pub struct TextStep {
     in_value: bool,
 }
 
-/// Returns what `continuation` queues, or `None` if it does more than queue a fixed text.
+/// Returns the text that `continuation` queues and what follows it, or `None` if the continuation
+/// does more than queue a text.
 #[inline(always)]
 fn text_step_at(continuation: Continuation) -> Option<TextStep> {
     let (pending_text, next, in_value) = match continuation {

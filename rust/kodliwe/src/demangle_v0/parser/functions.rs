@@ -1,5 +1,5 @@
 // Made from crates/demangle_v0/src/parser/functions.rt by packaging/crate/erase.py: edit that file instead.
-//! Function types.
+//! Continuations of function types.
 
 use crate::demangle_v0::parser::lists::separator;
 use crate::demangle_v0::parser::machine::Parser;

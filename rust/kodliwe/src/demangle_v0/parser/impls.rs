@@ -1,5 +1,5 @@
 // Made from crates/demangle_v0/src/parser/impls.rt by packaging/crate/erase.py: edit that file instead.
-//! The paths of impls, and the self type of a trait.
+//! Continuations of the paths of impls, and of self types.
 
 use crate::demangle_v0::parser::machine::Parser;
 use crate::demangle_v0::parser::{Continuation, StepError};

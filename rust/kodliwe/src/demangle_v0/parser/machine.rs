@@ -1,5 +1,5 @@
 // Made from crates/demangle_v0/src/parser/machine.rt by packaging/crate/erase.py: edit that file instead.
-//! The parser, and what its methods share.
+//! The parser, and the methods that the productions share.
 
 use crate::demangle_symbol::cursor::Looks;
 use crate::demangle_v0::parser::frames::{Frame, FrameStack};

@@ -1,5 +1,5 @@
 // Made from crates/demangle_v0/src/parser/names.rt by packaging/crate/erase.py: edit that file instead.
-//! The names of paths.
+//! The names of crates and of nested paths, which are read and printed.
 
 use crate::demangle_sink::SinkRefused;
 use crate::demangle_v0::parser::machine::Parser;

@@ -1,5 +1,5 @@
 // Made from crates/demangle_v0/src/parser/out_of_line.rt by packaging/crate/erase.py: edit that file instead.
-//! Continuations that few symbols have: each is a call, so that the loops stay short.
+//! Continuations that few symbols have. Each is a call, so that the loops stay small.
 
 use crate::demangle_v0::parser::machine::Parser;
 use crate::demangle_v0::parser::{Continuation, StepError};

@@ -1,5 +1,5 @@
 // Made from crates/demangle_v0/src/parser/paths.rt by packaging/crate/erase.py: edit that file instead.
-//! Paths.
+//! Continuations of paths.
 
 use crate::demangle_v0::parser::machine::Parser;
 use crate::demangle_v0::parser::{Continuation, StepError};

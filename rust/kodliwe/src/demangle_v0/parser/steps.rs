@@ -1,5 +1,5 @@
 // Made from crates/demangle_v0/src/parser/steps.rt by packaging/crate/erase.py: edit that file instead.
-//! Parses without output, which read and print nothing.
+//! The loop that parses without output, and the checkpoints of a parse.
 
 use crate::demangle_symbol::cursor::MAX_DEPTH;
 use crate::demangle_v0::parser::machine::Parser;

@@ -1,5 +1,5 @@
 // Made from crates/demangle_v0/src/parser/tokens.rt by packaging/crate/erase.py: edit that file instead.
-//! Reading tokens and printing them.
+//! Reads tokens and prints them.
 
 use crate::demangle_sink::SinkRefused;
 use crate::demangle_v0::parser::machine::Parser;

@@ -1,5 +1,5 @@
 // Made from crates/demangle_v0/src/parser/tuples.rt by packaging/crate/erase.py: edit that file instead.
-//! Tuple types.
+//! Continuations of tuple types.
 
 use crate::demangle_v0::parser::Continuation;
 use crate::demangle_v0::parser::machine::Parser;

@@ -1,5 +1,5 @@
 // Made from crates/demangle_v0_tokens/src/read/constants.rt by packaging/crate/erase.py: edit that file instead.
-//! The values of constants.
+//! Reads the values of constants.
 
 use crate::demangle_symbol::cursor::Looks;
 use crate::demangle_symbol::literal::{bool_of, character_of, is_string};

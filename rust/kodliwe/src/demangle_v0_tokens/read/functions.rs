@@ -1,5 +1,5 @@
 // Made from crates/demangle_v0_tokens/src/read/functions.rt by packaging/crate/erase.py: edit that file instead.
-//! The qualifiers of function types: `unsafe`, and the ABI.
+//! Reads the qualifiers of function types: `unsafe`, and the ABI.
 
 use crate::demangle_symbol::cursor::{Ident, Looks};
 use crate::demangle_v0_tokens::read::{TokenOutcome, TokenReader, invalid_token, token_read};

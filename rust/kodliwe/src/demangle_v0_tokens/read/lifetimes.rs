@@ -1,5 +1,5 @@
 // Made from crates/demangle_v0_tokens/src/read/lifetimes.rt by packaging/crate/erase.py: edit that file instead.
-//! Lifetimes, by their index.
+//! Reads lifetimes, by their index.
 
 use crate::demangle_symbol::cursor::Looks;
 use crate::demangle_v0_tokens::read::{TokenOutcome, TokenReader, invalid_token, token_read};

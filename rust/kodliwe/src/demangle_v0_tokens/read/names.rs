@@ -1,5 +1,5 @@
 // Made from crates/demangle_v0_tokens/src/read/names.rt by packaging/crate/erase.py: edit that file instead.
-//! Names, and disambiguators.
+//! Reads names and their disambiguators.
 
 use crate::demangle_symbol::cursor::{Ident, Looks, Symbol};
 use crate::demangle_v0_tokens::read::{TokenOutcome, TokenReader, invalid_token, token_read};

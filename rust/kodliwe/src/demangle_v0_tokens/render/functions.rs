@@ -1,5 +1,5 @@
 // Made from crates/demangle_v0_tokens/src/render/functions.rt by packaging/crate/erase.py: edit that file instead.
-//! The qualifiers of function types: `unsafe`, and the ABI.
+//! Prints the qualifiers of function types: `unsafe`, and the ABI.
 
 use crate::demangle_sink::{SinkRefused, SizeLimitedFmtAdapter, TextSink, put_each};
 use crate::demangle_symbol::cursor::{Looks, Part};

@@ -1,5 +1,5 @@
 // Made from crates/demangle_v0_tokens/src/render/lifetimes.rt by packaging/crate/erase.py: edit that file instead.
-//! The names of lifetimes, and binders.
+//! Prints the names of lifetimes, and binders.
 
 use crate::demangle_sink::{SinkRefused, SizeLimitedFmtAdapter, TextSink, put_char, put_each};
 use crate::support::itoa::Buffer;

@@ -1,5 +1,5 @@
 // Made from crates/demangle_v0_tokens/src/render/names.rt by packaging/crate/erase.py: edit that file instead.
-//! Names, with the texts before and after them.
+//! Prints names, with the texts before and after them.
 
 use crate::demangle_sink::{SinkRefused, SizeLimitedFmtAdapter, TextSink, put_char};
 use crate::demangle_symbol::cursor::{Ident, Looks};

@@ -1,5 +1,5 @@
 // Made from crates/demangle_v0_tokens/src/render/numbers.rt by packaging/crate/erase.py: edit that file instead.
-//! Numbers, and the types of numeric constants.
+//! Prints numbers, and the types of numeric constants.
 
 use crate::demangle_sink::{SinkRefused, SizeLimitedFmtAdapter, TextSink};
 use crate::demangle_symbol::cursor::Part;

@@ -1,6 +1,7 @@
 // Made from crates/demangle_vectors/src/tests/folded.rt by packaging/crate/erase.py: edit that file instead.
 //! Tests of symbols with `_` for their generic arguments.
-use super::assert_rejected;
+use super::repeats::repeated;
+use super::{assert_rejected, repeat_between};
 use crate::rustc_demangle::sink::ArraySink;
 use crate::rustc_demangle::{
     Format, Looks, demangle, demangle_bytes_formatted, demangle_slice_formatted,
@@ -199,4 +200,163 @@ fn a_text_is_folded_into_a_sink() {
     let result = demangle_text_formatted("x _RINvC3foo3barhE y", &mut sink, format);
     assert!(result.is_ok());
     assert_eq!(sink.as_str(), "x foo::bar::{size limit reached} y");
+}
+
+/// Runs that the filter looks up in its memo, with a limit and the folded texts, with the hash and
+/// without it.
+const RUNS: [(&[u8], usize, &[u8], &[u8]); 18] = [
+    // A lifetime in a list names none. The second path is not printed at all.
+    (
+        b"_RINvC5crate7genericRL1_uE",
+        1_000_000,
+        b"crate::generic::<_>",
+        b"crate::generic::<_>",
+    ),
+    (
+        b"_RINvC5crate7generichEINvC5other7genericRL1_hE",
+        1_000_000,
+        b"crate::generic::<_>",
+        b"crate::generic::<_>",
+    ),
+    (
+        b"_RMC5crateDINtC5other5traitRL1_hEp4ItemhEL_",
+        1_000_000,
+        b"<dyn other::trait<_, Item = u8>>",
+        b"<dyn other::trait<_, Item = u8>>",
+    ),
+    // A reference in a list has a bad target.
+    (
+        b"_RINvC5crate7genericBa_E",
+        1_000_000,
+        b"crate::generic::<_>",
+        b"crate::generic::<_>",
+    ),
+    // A reference has a list in its target.
+    (
+        b"_RMC5crateTINtC5other4typehEB8_E",
+        1_000_000,
+        b"<(other::type<_>, other::type<_>)>",
+        b"<(other::type<_>, other::type<_>)>",
+    ),
+    // A lifetime outside a list names none.
+    (
+        b"_RNvMC5crateRL1_INtC5other4typehE4main",
+        1_000_000,
+        b"<&'{invalid syntax} ?>::?",
+        b"<&'{invalid syntax} ?>::?",
+    ),
+    (
+        b"_RNvMNtCs8a2262Dv4r_3mio4pollINtB2_4PollKj3_E4poll",
+        1_000_000,
+        b"<mio[1888792e1a78739]::poll::Poll<_>>::poll",
+        b"<mio::poll::Poll<_>>::poll",
+    ),
+    // A second path or a suffix follows.
+    (
+        b"_RINvC5crate7generichEC5other",
+        1_000_000,
+        b"crate::generic::<_>",
+        b"crate::generic::<_>",
+    ),
+    (
+        b"_RINvC5crate7generichE.cold",
+        1_000_000,
+        b"crate::generic::<_>.cold",
+        b"crate::generic::<_>.cold",
+    ),
+    (
+        b"_RINvC5crate7generichE.llvm.1F",
+        1_000_000,
+        b"crate::generic::<_>",
+        b"crate::generic::<_>",
+    ),
+    (
+        b"_RINvC5crate7genericRL1_hEC5other.cold.llvm.1F",
+        1_000_000,
+        b"crate::generic::<_>.cold",
+        b"crate::generic::<_>.cold",
+    ),
+    // These are not symbols: a list, a second path or a suffix has an error.
+    (
+        b"_RINvC5crate7genericRE",
+        1_000_000,
+        b"_RINvC5crate7genericRE",
+        b"_RINvC5crate7genericRE",
+    ),
+    (
+        b"_RINvC5crate7generichENvC5other",
+        1_000_000,
+        b"_RINvC5crate7generichENvC5other",
+        b"_RINvC5crate7generichENvC5other",
+    ),
+    (
+        b"_RINvC5crate7generichEINvC5otherRE",
+        1_000_000,
+        b"_RINvC5crate7generichEINvC5otherRE",
+        b"_RINvC5crate7generichEINvC5otherRE",
+    ),
+    (
+        b"_RINvC5crate7generichE_not_allowed",
+        1_000_000,
+        b"_RINvC5crate7generichE_not_allowed",
+        b"_RINvC5crate7generichE_not_allowed",
+    ),
+    // The limit cuts the folded list, keeps all of it, or keeps nothing.
+    (
+        b"_RINvC5crate7generichE.cold",
+        18,
+        b"crate::generic::<_{size limit reached}.cold",
+        b"crate::generic::<_{size limit reached}.cold",
+    ),
+    (
+        b"_RINvC5crate7generichE.cold",
+        19,
+        b"crate::generic::<_>.cold",
+        b"crate::generic::<_>.cold",
+    ),
+    (
+        b"_RINvC5crate7generichE.cold",
+        0,
+        b"{size limit reached}.cold",
+        b"{size limit reached}.cold",
+    ),
+];
+
+#[test]
+fn a_repeated_run_is_folded_alike() -> Result<(), Fail> {
+    let rt = HostRuntime;
+    let alloc = rt.alloc();
+    for (run, limit, plain, alt) in RUNS {
+        for (include_hash, text) in [(true, plain), (false, alt)] {
+            let format = Format {
+                include_hash,
+                fold_arguments: true,
+                limit,
+            };
+            let output = filtered(alloc, repeated(alloc, run)?.as_slice(), format)?;
+            let wanted = repeated(alloc, text)?;
+            assert_eq!(output.as_slice(), wanted.as_slice(), "of {run:?}");
+        }
+    }
+    Ok(())
+}
+
+#[test]
+fn a_deep_list_is_folded() -> Result<(), Fail> {
+    let rt = HostRuntime;
+    let alloc = rt.alloc();
+    let format = Format {
+        include_hash: false,
+        fold_arguments: true,
+        limit: 1_000_000,
+    };
+    // More tuples than the first stack has frames.
+    for depth in [1, 40, 60, 400] {
+        let types = repeat_between(alloc, "_RINvC5crate7generic", "T", depth, "h")?;
+        let run = repeat_between(alloc, types.as_str(), "E", depth + 1, "")?;
+        let output = filtered(alloc, repeated(alloc, run.as_bytes())?.as_slice(), format)?;
+        let wanted = repeated(alloc, b"crate::generic::<_>")?;
+        assert_eq!(output.as_slice(), wanted.as_slice(), "at depth {depth}");
+    }
+    Ok(())
 }

@@ -141,7 +141,7 @@ impl Case<'_> {
 }
 
 /// Returns a text `TIMES` times, each on a line.
-fn repeated(alloc: Global, text: &[u8]) -> Result<Vec<u8>, AllocError> {
+pub(super) fn repeated(alloc: Global, text: &[u8]) -> Result<Vec<u8>, AllocError> {
     let mut lines = Vec::new(alloc);
     for _ in 0..TIMES {
         lines.extend_from_slice(text)?;

@@ -1,5 +1,5 @@
 // Made from crates/rustc_demangle/src/stream/fault.rt by packaging/crate/erase.py: edit that file instead.
-//! Why the stream stopped.
+//! The errors of the calls over a reader.
 
 use std::io;
 

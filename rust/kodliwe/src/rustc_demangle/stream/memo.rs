@@ -86,12 +86,12 @@ fn print_to_buffer(symbol: &Demangle<'_>, held: &mut PieceBuffer, format: Format
 /// part of it.
 #[inline(always)]
 fn print_first(run: &str, held: &mut PieceBuffer, format: Format) -> bool {
-    if format.fold_arguments || run.as_bytes()[1] != b'R' {
+    if run.as_bytes()[1] != b'R' {
         return false;
     }
     held.clear();
     let mut sink = BufferSink::new(held);
-    print_v0_run(run, &mut sink, format.include_hash, format.limit)
+    print_v0_run(run, &mut sink, format)
 }
 
 /// How the text of a run was found.
