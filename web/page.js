@@ -24,7 +24,8 @@ stack backtrace:
 `;
 
   const $ = (id) => document.getElementById(id);
-  const [input, hash, fold, wrap, copy, download, clear] = ["input", "hash", "fold", "wrap", "copy", "download", "clear"].map($);
+  const [input, copy, download, clear] = ["input", "copy", "download", "clear"].map($);
+  const [hash, fold, wrap] = ["hash", "fold", "wrap"].map($);
   const commas = (number) => number.toLocaleString("en");
 
   // ---- Messages
