@@ -15,3 +15,26 @@ pub struct Format {
     /// The most bytes before the marker `{size limit reached}` and the suffix.
     pub limit: usize,
 }
+
+impl Format {
+    /// Returns the format that prints generic arguments, with hashes or without, and cuts each
+    /// symbol at `limit` bytes.
+    #[inline]
+    pub const fn unfolded(include_hash: bool, limit: usize) -> Self {
+        Format {
+            include_hash,
+            fold_arguments: false,
+            limit,
+        }
+    }
+
+    /// Returns the same format, but with `_` for each list of generic arguments.
+    #[inline]
+    pub const fn folded(include_hash: bool, limit: usize) -> Self {
+        Format {
+            include_hash,
+            fold_arguments: true,
+            limit,
+        }
+    }
+}

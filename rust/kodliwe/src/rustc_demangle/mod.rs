@@ -24,7 +24,8 @@ pub use stream::{
 };
 use strip::without_thin_lto;
 pub use text::{demangle_text, demangle_text_formatted, demangle_text_limited};
-pub use value::{Demangle, write_with_path_len};
+pub use value::Demangle;
+pub use value::printing::write_with_path_len;
 
 /// The error for a text that is not a Rust symbol.
 #[derive(Debug, Clone)]

@@ -44,11 +44,7 @@ pub fn demangle_slice(
     include_hash: bool,
     limit: usize,
 ) -> Option<usize> {
-    let format = Format {
-        include_hash,
-        fold_arguments: false,
-        limit,
-    };
+    let format = Format::unfolded(include_hash, limit);
     demangle_slice_formatted(text, out, format)
 }
 

@@ -54,11 +54,7 @@ pub fn demangle_text_limited<S: TextSink>(
     include_hash: bool,
     limit: usize,
 ) -> Result<(), SinkRefused> {
-    let format = Format {
-        include_hash,
-        fold_arguments: false,
-        limit,
-    };
+    let format = Format::unfolded(include_hash, limit);
     demangle_text_formatted(text, out, format)
 }
 

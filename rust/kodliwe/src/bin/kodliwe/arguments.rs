@@ -1,13 +1,13 @@
 // Made from crates/kodliwe/src/arguments.rt by packaging/crate/erase.py: edit that file instead.
 //! Parses the command-line arguments.
 
-use kodliwe::rustc_demangle::{demangle_bytes, run_start};
-use kodliwe::support::alloc::{AllocError, Global};
 use kodliwe::support::string::String;
 use kodliwe::support::vec::Vec;
+mod kinds;
+mod request;
 
-/// The default limit on the bytes of a path.
-const LIMIT: usize = 1_000_000;
+use crate::arguments::kinds::classify;
+use kodliwe::support::alloc::{AllocError, Global};
 
 /// A text to filter, in the order of the arguments.
 pub enum InputSource<'a> {
@@ -113,135 +113,7 @@ pub enum AfterArgument<'a> {
     Version,
 }
 
-/// Returns whether an argument is the option `short` or `long`, and the value if the argument
-/// includes it, as `-iFILE` or `--input=FILE`.
-fn option_value<'a>(argument: &'a str, short: &str, long: &str) -> Option<Option<&'a str>> {
-    if argument == short || argument == long {
-        return Some(None);
-    }
-    if let Some(rest) = argument.strip_prefix(long) {
-        if let Some(value) = rest.strip_prefix("=") {
-            return Some(Some(value));
-        }
-    }
-    match argument.strip_prefix(short) {
-        Some(value) => Some(Some(value)),
-        None => None,
-    }
-}
-
-/// Returns the kind of an argument before `--`.
-fn classify(argument: &str) -> Argument<'_> {
-    if !argument.starts_with("-") {
-        return Argument::Symbol;
-    }
-    if argument == "-" {
-        return Argument::Stdin;
-    }
-    if argument == "--" {
-        return Argument::End;
-    }
-    if argument == "--hash" {
-        return Argument::Hash;
-    }
-    if argument == "-f" || argument == "--fold" {
-        return Argument::Fold;
-    }
-    if argument == "-h" || argument == "--help" {
-        return Argument::Help;
-    }
-    if argument == "-V" || argument == "--version" {
-        return Argument::Version;
-    }
-    if let Some(value) = option_value(argument, "-i", "--input") {
-        return Argument::Valued(ValuedOption::Input, value);
-    }
-    if let Some(value) = option_value(argument, "-o", "--output") {
-        return Argument::Valued(ValuedOption::Output, value);
-    }
-    if let Some(value) = option_value(argument, "-l", "--limit") {
-        return Argument::Valued(ValuedOption::Limit, value);
-    }
-    Argument::Unknown
-}
-
 impl<'a> Request<'a> {
-    /// Returns a request with the default options and nothing to filter.
-    fn new(alloc: Global) -> Request<'a> {
-        Request {
-            sources: Vec::new(alloc),
-            output: None,
-            include_hash: false,
-            fold_arguments: false,
-            limit: LIMIT,
-            plain_argument: None,
-        }
-    }
-
-    /// Adds a symbol as a separate line. Stores it as `plain_argument` if it is the first that the
-    /// filter does not change. Fails if memory can't be allocated.
-    fn add_symbol(&mut self, alloc: Global, symbol: &'a str) -> Result<(), AllocError> {
-        if self.plain_argument.is_none() && !has_symbol(alloc, symbol)? {
-            self.plain_argument = Some(symbol);
-        }
-        let mut lines = match self.sources.pop() {
-            Some(InputSource::Symbols(lines)) => lines,
-            Some(source) => {
-                self.sources.push(source)?;
-                Vec::new(alloc)
-            }
-            None => Vec::new(alloc),
-        };
-        push_line(&mut lines, symbol)?;
-        self.sources.push(InputSource::Symbols(lines))?;
-        Ok(())
-    }
-
-    /// Adds a file, or standard input if its name is `-`. Fails if memory can't be allocated.
-    fn add_file(&mut self, file: &'a str) -> Result<(), AllocError> {
-        let source = if file == "-" {
-            InputSource::Stdin
-        } else {
-            InputSource::File(file)
-        };
-        self.sources.push(source)?;
-        Ok(())
-    }
-
-    /// Sets the output. Fails if the output was set before; `argument` is the option's argument.
-    fn set_output(&mut self, argument: &'a str, value: &'a str) -> Result<(), UsageError<'a>> {
-        if self.output.is_some() {
-            return Err(UsageError::SecondOutput(argument));
-        }
-        self.output = Some(if value == "-" {
-            Target::Stdout
-        } else {
-            Target::File(value)
-        });
-        Ok(())
-    }
-
-    /// Applies the value of an option; `argument` is the option's argument. Fails if the value is
-    /// not valid, if the output was set before, or if memory can't be allocated.
-    fn set_value(
-        &mut self,
-        option: ValuedOption,
-        argument: &'a str,
-        value: &'a str,
-    ) -> Result<(), UsageError<'a>> {
-        match option {
-            ValuedOption::Input => self.add_file(value)?,
-            ValuedOption::Output => return self.set_output(argument, value),
-            ValuedOption::Limit => {
-                let Ok(limit) = value.parse::<usize>() else {
-                    return Err(UsageError::BadNumber(argument, value));
-                };
-                self.limit = limit;
-            }
-        }
-        Ok(())
-    }
-
     /// Applies an option, or waits for its value if the argument does not include it. Fails as
     /// `set_value` does.
     fn parse_option(
@@ -299,26 +171,6 @@ impl<'a> Request<'a> {
             }
         }
     }
-}
-
-/// Returns whether a text contains a symbol, which the filter would replace. Fails if memory can't
-/// be allocated.
-fn has_symbol(alloc: Global, text: &str) -> Result<bool, AllocError> {
-    if run_start(text.as_bytes()).is_none() {
-        return Ok(false);
-    }
-    let mut filtered = Vec::new(alloc);
-    match demangle_bytes(alloc, &mut text.as_bytes(), &mut filtered, false) {
-        Ok(()) => Ok(filtered.as_slice() != text.as_bytes()),
-        Err(_) => Err(AllocError),
-    }
-}
-
-/// Appends a text and a line feed. Fails if memory can't be allocated.
-fn push_line(lines: &mut Vec<u8>, text: &str) -> Result<(), AllocError> {
-    lines.extend_from_slice(text.as_bytes())?;
-    lines.push(b'\n')?;
-    Ok(())
 }
 
 /// Returns the error for an option without a value after it.

@@ -1,21 +1,22 @@
 // Made from crates/kodliwe/src/program.rt by packaging/crate/erase.py: edit that file instead.
 //! Runs the program on any file system and standard streams.
 
+use kodliwe::support::format;
+use kodliwe::support::string::String;
+use kodliwe::support::vec::Vec;
+mod output;
+
 use crate::arguments::{Command, InputSource, Request, Target, UsageError, parse_arguments};
-use crate::coalescing::CoalescingOutput;
 use crate::error::{OUT_OF_MEMORY, quoted, report_call, shown_name};
-use crate::filtering::{BUFFER, FilterOutcome, Input, Settings, filter_all};
+use crate::filtering::{Input, Settings};
 use crate::help::{HELP, VERSION, WAITING};
 use crate::inputs::{SourceReader, source_name};
-use crate::replacement::{Replacement, folder_of, open_output};
+use crate::program::output::Filtering;
 use crate::same_file::input_that_is_output;
 use kodliwe::rustc_demangle::Format;
 use kodliwe::support::alloc::{AllocError, Global};
-use kodliwe::support::format;
-use kodliwe::support::fs::{Files, OpenFile};
-use kodliwe::support::io::{BufWriter, IsTerminal, Stdin};
-use kodliwe::support::string::String;
-use kodliwe::support::vec::Vec;
+use kodliwe::support::fs::Files;
+use kodliwe::support::io::{IsTerminal, Stdin};
 use std::io;
 use std::io::{ErrorKind, Write};
 
@@ -125,88 +126,6 @@ fn settings_of(alloc: Global, request: &Request<'_>) -> Settings {
             fold_arguments: request.fold_arguments,
             limit: request.limit,
         },
-    }
-}
-
-/// The inputs to filter, and how.
-struct Filtering<'a, F: Files> {
-    files: &'a F,
-    inputs: Vec<Input<'a, SourceReader<'a, F>>>,
-    settings: Settings,
-}
-
-impl<F: Files> Filtering<'_, F> {
-    /// Filters into a writer, and returns the exit status.
-    fn write_to<W: Write, E: Write>(self, writer: W, errors: &mut E) -> u8 {
-        let Filtering {
-            files: _,
-            inputs,
-            settings,
-        } = self;
-        let Ok(buffer) = BufWriter::with_capacity(settings.alloc, BUFFER, writer) else {
-            return report_line(errors, OUT_OF_MEMORY, 1);
-        };
-        let mut output = CoalescingOutput::new(buffer);
-        filter_all(settings, inputs, &mut output, errors).status()
-    }
-
-    /// Filters into a file, and gives it its name when it is complete. Removes it after an error.
-    /// Returns the exit status.
-    fn replace<E: Write>(
-        self,
-        file: F::File,
-        replacement: &Replacement,
-        path: &str,
-        errors: &mut E,
-    ) -> u8 {
-        let Filtering {
-            files,
-            inputs,
-            settings,
-        } = self;
-        let Ok(buffer) = BufWriter::with_capacity(settings.alloc, BUFFER, file) else {
-            replacement.discard(files);
-            return report_line(errors, OUT_OF_MEMORY, 1);
-        };
-        let mut output = CoalescingOutput::new(buffer);
-        let ended = filter_all(settings, inputs, &mut output, errors);
-        if ended != FilterOutcome::Complete {
-            replacement.discard(files);
-            return ended.status();
-        }
-        let finished = match output.get_ref().sync_all() {
-            Ok(()) => replacement.finish(files),
-            Err(error) => Err(error),
-        };
-        match finished {
-            Ok(()) => 0,
-            Err(error) => {
-                replacement.discard(files);
-                report_call(settings.alloc, errors, path, &error);
-                1
-            }
-        }
-    }
-
-    /// Filters into the file that a path names, and returns the exit status.
-    fn write_file<E: Write>(self, path: &str, errors: &mut E) -> u8 {
-        let alloc = self.settings.alloc;
-        let (file, replacement) = match open_output(alloc, self.files, path) {
-            Ok(opened) => opened,
-            Err(fault) => {
-                let name = if fault.is_in_folder {
-                    folder_of(path)
-                } else {
-                    path
-                };
-                report_call(alloc, errors, name, &fault.error);
-                return 1;
-            }
-        };
-        match replacement {
-            Some(replacement) => self.replace(file, &replacement, path, errors),
-            None => self.write_to(file, errors),
-        }
     }
 }
 

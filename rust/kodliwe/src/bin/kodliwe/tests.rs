@@ -59,11 +59,7 @@ fn run_one<R: Read, W: Write>(
     let mut errors = Vec::new(alloc);
     let settings = Settings {
         alloc,
-        format: Format {
-            include_hash,
-            fold_arguments: false,
-            limit: 1_000_000,
-        },
+        format: Format::unfolded(include_hash, 1_000_000),
     };
     let ended = filter_all(settings, inputs, output, &mut errors);
     Ok((ended, errors))
@@ -130,11 +126,7 @@ fn inputs_are_filtered_each_by_itself() -> Result<(), Fail> {
     let mut errors = Vec::new(alloc);
     let settings = Settings {
         alloc,
-        format: Format {
-            include_hash: false,
-            fold_arguments: false,
-            limit: 1_000_000,
-        },
+        format: Format::unfolded(false, 1_000_000),
     };
     let ended = filter_all(settings, inputs, &mut output, &mut errors);
     assert_eq!(ended, FilterOutcome::Complete);

@@ -191,11 +191,7 @@ fn texts_are_written_in_a_format() -> Result<(), Fail> {
 
 #[test]
 fn a_text_is_folded_into_a_sink() {
-    let format = Format {
-        include_hash: false,
-        fold_arguments: true,
-        limit: 10,
-    };
+    let format = Format::folded(false, 10);
     let mut sink: ArraySink<256> = ArraySink::new();
     let result = demangle_text_formatted("x _RINvC3foo3barhE y", &mut sink, format);
     assert!(result.is_ok());

@@ -91,11 +91,7 @@ pub fn demangle_bytes_limited<R: BufRead, W: Write>(
     include_hash: bool,
     limit: usize,
 ) -> Result<(), StreamFault> {
-    let format = Format {
-        include_hash,
-        fold_arguments: false,
-        limit,
-    };
+    let format = Format::unfolded(include_hash, limit);
     demangle_bytes_formatted(alloc, input, output, format)
 }
 

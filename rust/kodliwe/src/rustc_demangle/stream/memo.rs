@@ -5,7 +5,8 @@ use crate::piece_buffer::PieceBuffer;
 use crate::rustc_demangle::format::Format;
 use crate::rustc_demangle::stream::buffer_sink::BufferSink;
 use crate::rustc_demangle::stream::line_writer::write_run;
-use crate::rustc_demangle::value::{Demangle, print_v0_run};
+use crate::rustc_demangle::value::Demangle;
+use crate::rustc_demangle::value::printing::print_v0_run;
 use crate::support::alloc::Global;
 use std::io;
 use std::io::Write;
@@ -149,11 +150,7 @@ impl SymbolMemo {
     /// Returns a memo of symbols that are printed with or without the hash, each cut at `limit`
     /// bytes before its suffix.
     pub fn new(alloc: Global, include_hash: bool, limit: usize) -> Self {
-        let format = Format {
-            include_hash,
-            fold_arguments: false,
-            limit,
-        };
+        let format = Format::unfolded(include_hash, limit);
         SymbolMemo::with_format(alloc, format)
     }
 

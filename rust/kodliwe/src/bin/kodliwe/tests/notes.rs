@@ -121,11 +121,7 @@ fn each_input_is_noted_by_its_name() -> Result<(), Fail> {
     }
     let settings = Settings {
         alloc,
-        format: Format {
-            include_hash: false,
-            fold_arguments: false,
-            limit: 1_000_000,
-        },
+        format: Format::unfolded(false, 1_000_000),
     };
     let mut output = Vec::new(alloc);
     let mut errors = Vec::new(alloc);
