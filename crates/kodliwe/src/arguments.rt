@@ -7,7 +7,7 @@ ghost use Rattle.kodliwe.specs.CommandLine.{options_of, parsed_as, rejection_of,
 ghost use Rattle.kodliwe.specs.OneArgument.{IsArgument, Accepts, Rejects, expected_of};
 
 mod kinds;
-mod request;
+mod requests;
 
 use crate::arguments::kinds::classify;
 use std::alloc::{AllocError, Global};

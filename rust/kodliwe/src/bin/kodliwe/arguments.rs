@@ -4,7 +4,7 @@
 use kodliwe::support::string::String;
 use kodliwe::support::vec::Vec;
 mod kinds;
-mod request;
+mod requests;
 
 use crate::arguments::kinds::classify;
 use kodliwe::support::alloc::{AllocError, Global};

@@ -1,4 +1,4 @@
-// Made from crates/kodliwe/src/arguments/request.rt by packaging/crate/erase.py: edit that file instead.
+// Made from crates/kodliwe/src/arguments/requests.rt by packaging/crate/erase.py: edit that file instead.
 //! Adds what the arguments say to a request.
 
 use crate::arguments::{InputSource, Request, Target, UsageError, ValuedOption};
