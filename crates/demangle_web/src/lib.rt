@@ -76,11 +76,7 @@ pub extern "C" fn kodliwe_demangle_folded(
         let path = path_in symbol.now (folded include_hash (min limit MAX_SIZE)) in
         out.new ≡ overlay out.old (c_string (length out.old) path) }
 {
-    let format = Format {
-        include_hash,
-        fold_arguments: true,
-        limit,
-    };
+    let format = Format::folded(include_hash, limit);
     write_part_formatted(symbol, out, format, 0)
 }
 
@@ -129,11 +125,7 @@ pub extern "C" fn kodliwe_demangle_text_folded(
     ensures past { usize.MAX ≤ length (filtered_in (folded include_hash (min limit MAX_SIZE)) text.now) →
         result ≡ usize.MAX }
 {
-    let format = Format {
-        include_hash,
-        fold_arguments: true,
-        limit,
-    };
+    let format = Format::folded(include_hash, limit);
     write_text_formatted(text, out, format)
 }
 
