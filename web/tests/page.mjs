@@ -213,6 +213,7 @@ export async function testPage(kind, check, shots) {
   // Moves the mouse over a mark, which may be under the text area.
   async function pointing(id) {
     await browser.mouse(5, 5);
+    await wait(`document.querySelector("#${id} mark") !== null`, 5);
     const place = JSON.parse(await evaluate(`(() => { const it = document.querySelector("#${id} mark").getBoundingClientRect(); return JSON.stringify([it.x + it.width / 2, it.y + it.height / 2]); })()`));
     await browser.mouse(...place);
     await sleep(200);
@@ -347,6 +348,7 @@ export async function testPage(kind, check, shots) {
     await paste("_ZN3foo3barE\n_RNvC1a1b\n_ZN1xE");
     await evaluate("input.setSelectionRange(16, 16); 0");
     say("the text cursor chooses a symbol", await wait('document.getElementById("mangled").textContent === "_RNvC1a1b"', 5), await value("mangled"));
+    say("the symbol has a mark in the output", await wait('document.querySelector("#output mark") !== null', 5));
     const place = JSON.parse(await evaluate(`(() => { const it = document.querySelector("#output mark").getBoundingClientRect(); return JSON.stringify([it.x + it.width / 2, it.y + it.height / 2]); })()`));
     await browser.mouse(...place);
     say("the pointer tells another", await wait('document.getElementById("mangled").textContent === "_ZN3foo3barE"', 5), await value("mangled"));
