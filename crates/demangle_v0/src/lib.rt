@@ -11,6 +11,7 @@ use demangle_sink::{SizeLimitedFmtAdapter, TextSink};
 use demangle_symbol::cursor::{Looks, ParseError, Symbol};
 use demangle_v0_tokens::source::Source;
 
+mod acceptance;
 mod parser;
 mod printer;
 #[cfg(test)]
@@ -18,6 +19,7 @@ mod tests;
 mod validation;
 mod value;
 
+pub use acceptance::demangle_printed_within;
 pub use value::Demangle;
 
 /// Returns the text after the prefix of a v0 symbol, or `None` without such a prefix.

@@ -17,6 +17,7 @@ mod limits;
 mod refused;
 mod repeats;
 mod sinks;
+mod slices;
 mod stream;
 mod texts;
 mod v0_constants;

@@ -5,6 +5,10 @@ ghost use Rattle.std.specs.Prelude.{◌≡◌, ◌+◌, ◌==◌, ◌≤◌, [],
 
 use std::marker::Model;
 
+mod array;
+
+pub use array::PieceArray;
+
 /// The most bytes that the buffer holds. They are on the stack.
 pub const CAPACITY: usize = 2048;
 

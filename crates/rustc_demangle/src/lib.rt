@@ -8,6 +8,7 @@ ghost use Rattle.rustc_demangle.specs.Symbols.{IsSymbol};
 mod display;
 mod format;
 pub mod laws;
+mod printed_first;
 mod runs;
 pub mod sink;
 mod slice;

@@ -7,8 +7,8 @@ ghost use Rattle.rustc_demangle.specs.Filtered.{filtered_in, filtered_within};
 ghost use Rattle.rustc_demangle.specs.TextPieces.{filtered_pieces_in};
 
 use crate::format::Format;
+use crate::printed_first::put_run_first;
 use crate::runs::{run_len, run_start, run_text};
-use crate::text::put_run;
 use demangle_sink::{SinkRefused, SliceSink, TextSink};
 
 /// Writes bytes, which need not be UTF-8, with each symbol of them demangled. Fails if the sink
@@ -19,11 +19,12 @@ fn put_slice<'b>(text: &[u8], out: &mut SliceSink<'b>, format: Format) -> Result
         (filtered_pieces_in format text.now) result out.new }
 {
     let mut rest = text;
+    let mut pause = 0;
     while let Some(start) = run_start(rest) {
         let (kept, found) = rest.split_at(start);
         let (run, following) = found.split_at(run_len(found));
         out.put_bytes(kept)?;
-        put_run(run_text(run), out, format)?;
+        put_run_first(run_text(run), out, format, &mut pause)?;
         rest = following;
     }
     out.put_bytes(rest)

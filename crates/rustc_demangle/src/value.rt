@@ -106,7 +106,7 @@ fn is_graphic(byte: u8) -> bool
 /// Returns whether a suffix is allowed: empty, or `.` followed only by graphic characters. It makes
 /// at most one look for each byte.
 #[tactic(auto, using(crate::proofs::SuffixLemmas::suffix_steps))]
-fn is_allowed(suffix: &str, looks: &mut Looks) -> bool
+pub(crate) fn is_allowed(suffix: &str, looks: &mut Looks) -> bool
     ensures allowed { result ≡ is_allowed suffix.now }
     ensures grows { looks.old ≤ looks.new }
     ensures most { looks.new ≤ looks.old + length suffix.now }

@@ -6,6 +6,7 @@ use crate::demangle_symbol::cursor::{Looks, ParseError, Symbol};
 use crate::demangle_v0::validation::{begins_path, print_to_suffix, suffix_at};
 use crate::demangle_v0_tokens::source::Source;
 
+mod acceptance;
 mod parser;
 mod printer;
 #[cfg(test)]
@@ -14,6 +15,7 @@ mod tests;
 mod validation;
 mod value;
 
+pub use acceptance::demangle_printed_within;
 pub use value::Demangle;
 
 /// Returns the text after the prefix of a v0 symbol, or `None` without such a prefix.

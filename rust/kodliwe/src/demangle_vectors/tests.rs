@@ -22,6 +22,7 @@ mod limits;
 mod refused;
 mod repeats;
 mod sinks;
+mod slices;
 mod stream;
 mod texts;
 mod v0_constants;

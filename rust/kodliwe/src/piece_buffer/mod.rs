@@ -1,6 +1,10 @@
 // Made from crates/piece_buffer/src/lib.rt by packaging/crate/erase.py: edit that file instead.
 //! A buffer for bytes on their way to a writer, which makes pieces of a few bytes cheap.
 
+mod array;
+
+pub use array::PieceArray;
+
 /// The most bytes that the buffer holds. They are on the stack.
 pub const CAPACITY: usize = 2048;
 

@@ -4,6 +4,7 @@
 mod display;
 mod format;
 pub mod laws;
+mod printed_first;
 mod runs;
 pub mod sink;
 mod slice;

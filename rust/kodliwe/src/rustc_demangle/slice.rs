@@ -3,18 +3,19 @@
 
 use crate::demangle_sink::{SinkRefused, SliceSink};
 use crate::rustc_demangle::format::Format;
+use crate::rustc_demangle::printed_first::put_run_first;
 use crate::rustc_demangle::runs::{run_len, run_start, run_text};
-use crate::rustc_demangle::text::put_run;
 
 /// Writes bytes, which need not be UTF-8, with each symbol of them demangled. Fails if the sink
 /// fails.
 fn put_slice<'b>(text: &[u8], out: &mut SliceSink<'b>, format: Format) -> Result<(), SinkRefused> {
     let mut rest = text;
+    let mut pause = 0;
     while let Some(start) = run_start(rest) {
         let (kept, found) = rest.split_at(start);
         let (run, following) = found.split_at(run_len(found));
         out.put_bytes(kept)?;
-        put_run(run_text(run), out, format)?;
+        put_run_first(run_text(run), out, format, &mut pause)?;
         rest = following;
     }
     out.put_bytes(rest)

@@ -67,7 +67,7 @@ fn is_graphic(byte: u8) -> bool {
 
 /// Returns whether a suffix is allowed: empty, or `.` followed only by graphic characters. It makes
 /// at most one look for each byte.
-fn is_allowed(suffix: &str, looks: &mut Looks) -> bool {
+pub(crate) fn is_allowed(suffix: &str, looks: &mut Looks) -> bool {
     let symbol = Symbol::new(suffix);
     if symbol.len() == 0 {
         return true;

@@ -23,23 +23,23 @@ returns-in_err-put_bytes c =
 pub run_text-requires : goal.run_text-requires
 run_text-requires c = all_cut _ _ _ _ refl c.run_len.ensures c.split_at-in-Some.ensures.front
 
-pub put_run-requires-clause-run : goal.put_run-requires-clause-run
-put_run-requires-clause-run c = ap (list_all is_run_byte) c.run_text.ensures ∙ all_cut _ _ _ _ refl c.run_len.ensures c.split_at-in-Some.ensures.front
+pub put_run_first-requires-clause-run : goal.put_run_first-requires-clause-run
+put_run_first-requires-clause-run c = ap (list_all is_run_byte) c.run_text.ensures ∙ all_cut _ _ _ _ refl c.run_len.ensures c.split_at-in-Some.ensures.front
 
-pub returns-in_err-put_run : goal.returns-in_err-put_run
-returns-in_err-put_run c =
+pub returns-in_err-put_run_first : goal.returns-in_err-put_run_first
+returns-in_err-put_run_first c =
     slice_writes _ _ _ _
     (feeding_run ghosts _ _ _ _ _ _ _ c.run_text.result.now _ _ _ _ _ _ _ _ _ _ c.loop-start.invariant
     (refl, c.in-Some.ensures.some, c.split_at.ensures.front, c.split_at.ensures.back, refl, c.run_len.ensures, c.run_text.ensures ∙ c.split_at-in-Some.ensures.front, c.split_at-in-Some.ensures.back)
     (slice_puts _ _ (Ok tt) _ c.in_ok-put_bytes.ensures.taken c.in_ok-put_bytes.ensures.not_failed c.in_ok-put_bytes.ensures.refused c.in_ok-put_bytes.ensures.kept c.in_ok-put_bytes.ensures.fits)
-    refl c.in_err-put_run.ensures refl c.from_residual-in_err-put_run.ensures.0)
+    refl c.in_err-put_run_first.ensures refl c.from_residual-in_err-put_run_first.ensures.0)
 
 pub loop-start-preserved : goal.loop-start-preserved
 loop-start-preserved c =
     feeding_step ghosts _ _ _ _ _ _ _ c.run_text.result.now _ _ _ _ _ _ _ _ _ c.loop-start.invariant
     (refl, c.in-Some.ensures.some, c.split_at.ensures.front, c.split_at.ensures.back, refl, c.run_len.ensures, c.run_text.ensures ∙ c.split_at-in-Some.ensures.front, c.split_at-in-Some.ensures.back)
     (slice_puts _ _ (Ok tt) _ c.in_ok-put_bytes.ensures.taken c.in_ok-put_bytes.ensures.not_failed c.in_ok-put_bytes.ensures.refused c.in_ok-put_bytes.ensures.kept c.in_ok-put_bytes.ensures.fits)
-    refl c.in_ok-put_run.ensures refl
+    refl c.in_ok-put_run_first.ensures refl
 
 pub returns : goal.returns
 returns c =

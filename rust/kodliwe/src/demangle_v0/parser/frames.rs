@@ -126,6 +126,29 @@ impl<const N: usize> FrameStack<N> {
         self.frames.truncate(count);
     }
 
+    /// Returns the number of the top frame, or 0 if the stack is empty.
+    // It is not inlined, so that the loop that asks for it stays small.
+    #[inline(never)]
+    pub fn top_number(&self) -> u128 {
+        match self.frames.as_slice().last() {
+            Some(frame) => unpack(*frame).number,
+            None => 0,
+        }
+    }
+
+    /// Returns whether the top frame is the place after a reference.
+    // It is not inlined, as above.
+    #[inline(never)]
+    pub fn top_is_reference(&self) -> bool {
+        match self.frames.as_slice().last() {
+            Some(frame) => match unpack(*frame).continuation {
+                Continuation::AfterBackref => true,
+                _ => false,
+            },
+            None => false,
+        }
+    }
+
     /// Removes the top frame and returns it, or returns `None` if the stack is empty.
     #[inline(always)]
     pub fn pop(&mut self) -> Option<Frame> {

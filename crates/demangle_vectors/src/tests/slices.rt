@@ -1,0 +1,227 @@
+//! Tests of v0 runs in memory, which are printed before they are known to be symbols. The expected
+//! texts are those of the Rust crate.
+use rustc_demangle::sink::WriteSink;
+use rustc_demangle::{Format, demangle_slice_formatted, demangle_text_formatted};
+use std::alloc::{AllocError, Global};
+use std::process::Abort;
+use std::test::Fail;
+
+const DIGITS: &[u8] = b"0123456789abcdefghijklmnopqrstuvwxyzABCDEFGHIJKLMNOPQRSTUVWXYZ";
+
+/// The bytes of the memory, and of the text that is expected in it, at most.
+const ROOM: usize = 4096;
+
+/// Appends a reference to a place, with zeros before its digits.
+fn push_reference(symbol: &mut String, place: usize, zeros: usize) -> Result<(), AllocError> {
+    symbol.push_str("B")?;
+    for _ in 0..zeros {
+        symbol.push_str("0")?;
+    }
+    if let Some(before) = place.checked_sub(1) {
+        for digit in [before / 62, before % 62] {
+            let byte = DIGITS.get(digit).copied().unwrap_or(b'_');
+            symbol.push(char::from(byte))?;
+        }
+    }
+    symbol.push_str("_")
+}
+
+/// Returns a generic path with a unit, and then `count` references to the argument before. Each
+/// reference takes one step more than the one before.
+fn chain(alloc: Global, count: usize, end: &str) -> Result<String, AllocError> {
+    let mut symbol = String::new(alloc);
+    symbol.push_str("_RINvC1a1bu")?;
+    let mut place = 8;
+    for _ in 0..count {
+        let next = symbol.len().saturating_sub(2);
+        push_reference(&mut symbol, place, 0)?;
+        place = next;
+    }
+    symbol.push_str(end)?;
+    Ok(symbol)
+}
+
+/// Returns a generic path with a name of some length, and then references to that name.
+fn names(alloc: Global, len: usize, count: usize, end: &str) -> Result<String, AllocError> {
+    let mut symbol = format!(in alloc; "_RIC1aC{len}")?;
+    for _ in 0..len {
+        symbol.push_str("x")?;
+    }
+    for _ in 0..count {
+        push_reference(&mut symbol, 4, 0)?;
+    }
+    symbol.push_str(end)?;
+    Ok(symbol)
+}
+
+/// Returns a generic path whose tuple refers to itself, with zeros before the digits.
+fn self_reference(alloc: Global, zeros: usize) -> Result<String, AllocError> {
+    let mut symbol = String::new(alloc);
+    symbol.push_str("_RIC1aTu")?;
+    push_reference(&mut symbol, 4, zeros)?;
+    symbol.push_str("EE")?;
+    Ok(symbol)
+}
+
+/// Returns the text of a list of arguments, each of which prints the same.
+fn arguments(alloc: Global, path: &str, each: &str, count: usize) -> Result<String, AllocError> {
+    let mut text = format!(in alloc; "{path}::<{each}")?;
+    for _ in 1..count {
+        text.push_str(", ")?;
+        text.push_str(each)?;
+    }
+    text.push_str(">")?;
+    Ok(text)
+}
+
+/// Asserts what a call writes into memory, and that it leaves the rest of the memory.
+fn assert_writes(rt: &impl Abort, text: &str, format: Format, wanted: &[u8]) {
+    let mut memory = [7; ROOM];
+    let len = demangle_slice_formatted(text.as_bytes(), &mut memory, format);
+    assert_eq!(rt; len, Some(wanted.len()), "of {text}");
+    assert_eq!(rt; memory.get(..wanted.len()), Some(wanted), "of {text}");
+    assert!(rt;
+        memory.iter().skip(wanted.len()).all(|byte| *byte == 7),
+        "the rest of the memory of {text}"
+    );
+}
+
+/// Asserts that a call writes into memory what another call puts into a sink, which validates each
+/// run before it prints it.
+fn assert_is_the_same(rt: &impl Abort, alloc: Global, text: &str) -> Result<(), Fail> {
+    for limit in [0, 5, 767, 768, 1_000_000] {
+        for include_hash in [true, false] {
+            for format in [
+                Format::unfolded(include_hash, limit),
+                Format::folded(include_hash, limit),
+            ] {
+                let mut printed = Vec::new(alloc);
+                let mut sink = WriteSink::new(&mut printed);
+                assert!(rt; demangle_text_formatted(text, &mut sink, format).is_ok());
+                assert!(rt; sink.into_fault().is_none());
+                let kept = printed.as_slice().get(..ROOM).unwrap_or(printed.as_slice());
+                let mut memory = [7; ROOM];
+                let len = demangle_slice_formatted(text.as_bytes(), &mut memory, format);
+                assert_eq!(rt; len, Some(printed.len()), "of {text} with {limit}");
+                assert_eq!(rt;
+                    memory.get(..kept.len()),
+                    Some(kept),
+                    "of {text} with {limit}"
+                );
+                assert!(rt;
+                    memory.iter().skip(kept.len()).all(|byte| *byte == 7),
+                    "after {text}"
+                );
+            }
+        }
+    }
+    Ok(())
+}
+
+#[test]
+fn runs_of_each_kind(rt: HostRuntime) -> Result<(), Fail> {
+    for (run, plain, folded) in [
+        ("_RNvC3foo3bar", "foo::bar", "foo::bar"),
+        ("_RNvC3foo3bar.llvm.123", "foo::bar", "foo::bar"),
+        ("_RNvC3foo3bar.cold", "foo::bar.cold", "foo::bar.cold"),
+        ("_RNvC3foo3barx", "_RNvC3foo3barx", "_RNvC3foo3barx"),
+        ("_RNvC3foo", "_RNvC3foo", "_RNvC3foo"),
+        ("_RNvC3foo3bar$x", "_RNvC3foo3bar$x", "_RNvC3foo3bar$x"),
+        ("_RINvC1a1bKj3_KB8_E", "a::b::<3usize, 3usize>", "a::b::<_>"),
+        ("_RINvC1a1bRL_hE", "a::b::<&u8>", "a::b::<_>"),
+        ("_RINvC1a1bB9_E", "_RINvC1a1bB9_E", "_RINvC1a1bB9_E"),
+        (
+            "_RNvNtCs1234_7mycrate3foo3barNtB2_3foo",
+            "mycrate[3c1c0]::foo::bar",
+            "mycrate[3c1c0]::foo::bar",
+        ),
+        ("_RUBY", "_RUBY", "_RUBY"),
+        ("_R", "_R", "_R"),
+    ] {
+        assert_writes(
+            &rt,
+            run,
+            Format::unfolded(true, 1_000_000),
+            plain.as_bytes(),
+        );
+        assert_writes(&rt, run, Format::folded(true, 1_000_000), folded.as_bytes());
+        assert_is_the_same(&rt, rt.alloc(), run)?;
+    }
+    Ok(())
+}
+
+#[test]
+fn a_chain_of_references_takes_all_numbers_of_steps(rt: HostRuntime) -> Result<(), Fail> {
+    let alloc = rt.alloc();
+    let format = Format::unfolded(true, 1_000_000);
+    for count in 0..60usize {
+        let symbol = chain(alloc, count, "E")?;
+        let text = arguments(alloc, "a::b", "()", count.saturating_add(1))?;
+        assert_writes(&rt, symbol.as_str(), format, text.as_bytes());
+        let damaged = chain(alloc, count, "")?;
+        assert_writes(&rt, damaged.as_str(), format, damaged.as_bytes());
+    }
+    for count in [0usize, 4, 8, 16, 32, 40, 44, 48, 59] {
+        assert_is_the_same(&rt, alloc, chain(alloc, count, "E")?.as_str())?;
+        assert_is_the_same(&rt, alloc, chain(alloc, count, "")?.as_str())?;
+    }
+    Ok(())
+}
+
+#[test]
+fn texts_have_all_lengths_about_that_of_the_buffer(rt: HostRuntime) -> Result<(), Fail> {
+    let alloc = rt.alloc();
+    let format = Format::unfolded(false, 1_000_000);
+    for count in 1..=2usize {
+        for len in (245..260usize).chain(360..385usize) {
+            let mut name = String::new(alloc);
+            for _ in 0..len {
+                name.push_str("x")?;
+            }
+            let text = arguments(alloc, "a", name.as_str(), count.saturating_add(1))?;
+            let symbol = names(alloc, len, count, "E")?;
+            assert_writes(&rt, symbol.as_str(), format, text.as_bytes());
+            let damaged = names(alloc, len, count, "")?;
+            assert_writes(&rt, damaged.as_str(), format, damaged.as_bytes());
+        }
+    }
+    Ok(())
+}
+
+#[test]
+fn a_run_that_was_printed_in_vain_leaves_no_text(rt: HostRuntime) -> Result<(), Fail> {
+    let alloc = rt.alloc();
+    let format = Format::unfolded(true, 1_000_000);
+    // The text of such a run would be longer than the run.
+    let damaged = names(alloc, 20, 8, "")?;
+    assert_writes(&rt, damaged.as_str(), format, damaged.as_bytes());
+    let mut text = String::new(alloc);
+    let mut wanted = String::new(alloc);
+    for count in 0..40usize {
+        let run = if count % 11 == 0 {
+            damaged.as_str()
+        } else {
+            "_RNvC3foo3bar"
+        };
+        text.push_str(run)?;
+        text.push_str(" ")?;
+        wanted.push_str(if count % 11 == 0 { run } else { "foo::bar" })?;
+        wanted.push_str(" ")?;
+    }
+    assert_writes(&rt, text.as_str(), format, wanted.as_bytes());
+    assert_is_the_same(&rt, alloc, text.as_str())
+}
+
+#[test]
+fn a_tuple_refers_to_itself(rt: HostRuntime) -> Result<(), Fail> {
+    let alloc = rt.alloc();
+    for zeros in [0usize, 3, 40, 150, 300, 359, 371, 380, 1000] {
+        let symbol = self_reference(alloc, zeros)?;
+        let mut memory = [7; ROOM];
+        let format = Format::unfolded(true, 1_000_000);
+        let len = demangle_slice_formatted(symbol.as_bytes(), &mut memory, format);
+        assert_eq!(rt; len, Some(1032), "with {zeros} zeros");
+        assert_is_the_same(&rt, alloc, symbol.as_str())?;
+    }
+    Ok(())
+}

@@ -1,0 +1,55 @@
+use Rattle.std.specs.Prelude.{IsAscii}
+use Rattle.std.specs.List.{concat}
+use Rattle.std.proofs.Common.{◌≡◌, ℕ, true, false, List, [], ◌∷◌, ◌++◌, Result, Ok, Err, is_ok, OnOk, Some, refl, sym, subst, ap, ◌∙◌, inr, rules}
+use Rattle.std.proofs.lemmas.Bool.{false≢true}
+use Rattle.demangle_v0_grammar.specs.Reading.{path_texts}
+use Rattle.demangle_v0_grammar.specs.V0.{v0_of}
+use Rattle.demangle_v0_grammar.proofs.V0Reading.{read_is_v0}
+use Rattle.demangle_sink.specs.Cut.{cut}
+use Rattle.demangle_sink.specs.declared.SinkRefused.{SinkRefused}
+use Rattle.demangle_sink.proofs.PutsPiecesLemmas.{puts_then, puts_text}
+use Rattle.demangle_sink.proofs.PrintsLemmas.{prints_cut_all}
+use Rattle.rustc_demangle.specs.Filtered.{replacement_in}
+use Rattle.rustc_demangle.specs.Stripped.{is_allowed, stripped}
+use Rattle.rustc_demangle.specs.Symbols.{IsSymbol, form_of}
+use Rattle.rustc_demangle.specs.declared.format.Format.{Format}
+use Rattle.rustc_demangle.proofs.ByteStreamLemmas.{all_ascii}
+use Rattle.rustc_demangle.proofs.MemoLemmas.{symbol_replaced}
+use Rattle.rustc_demangle.proofs.PrintingLaws.{handed-some_of}
+use Rattle.rustc_demangle.proofs.Stripping.{IsAscii-stripped}
+use Rattle.rustc_demangle.proofs.SymbolLemmas.{pieces-v0}
+use Rattle.rustc_demangle.proofs.printed_first.print_run_within.Goals as goal
+use Rattle.rustc_demangle.proofs.printed_first.print_run_within.Goals.{then-is_allowed, else-is_allowed}
+
+-- the text that a v0 symbol prints replaces its run
+v0_replaced : (run text inner suffix : List ℕ) (format : Format) → text ≡ stripped run → v0_of text ≡ Some (inner, suffix) → is_allowed suffix ≡ true
+    → concat (cut (path_texts inner (form_of format)) format.limit ++ suffix ∷ []) ≡ replacement_in format run
+v0_replaced run text inner suffix format same read allowed =
+    let whole = handed-some_of text format (path_texts inner (form_of format), suffix) (pieces-v0 (form_of format) text inner suffix read allowed) in
+    let is : IsSymbol text = inr (inner, suffix, read_is_v0 text inner suffix read, allowed) in
+    sym (ap concat whole) ∙ symbol_replaced run text format same is
+
+pub demangle_printed_within-read-requires-clause-ascii : goal.demangle_printed_within-read-requires-clause-ascii
+demangle_printed_within-read-requires-clause-ascii g c = subst IsAscii (sym c.without_thin_lto-text.ensures) (IsAscii-stripped c.args.run.now (all_ascii c.args.run.now c.requires.run))
+
+when_ok : {P : Type 0} (r : Result (Unit {0}) SinkRefused) → is_ok r ≡ true → OnOk r P → P
+when_ok (Ok u) e p = p
+when_ok (Err f) e p = absurd (false≢true e)
+
+pub returns : goal.returns
+returns g c = elim c.if-is_allowed.branch [
+  | then-is_allowed w ↦ λ is.
+      let laws = g.met.S.TextSink in
+      let printed = c.demangle_printed_within-read.new.out in
+      let suffix = c.in-Some.suffix.now in
+      let put = w.put_piece.result in
+      let prints = c.in-Some.ensures.prints in
+      let both =
+      puts_then g.S.TextSink c.args.out.now _ w.put_piece.new.out _ (suffix ∷ []) (Ok tt) put
+      (prints_cut_all g.S.TextSink c.new-limited.result printed _ _ _ _ (Ok tt) c.new-limited.ensures.text c.new-limited.ensures.left prints (prints.open_ refl) (search rules))
+      refl w.put_piece.ensures in
+      let took = puts_text g.S.TextSink c.args.out.now w.put_piece.new.out _ put laws.took_nothing laws.took_joined both in
+      let text = v0_replaced c.args.run.now c.without_thin_lto-text.result.now c.in-Some.field-0-0 suffix c.args.format c.without_thin_lto-text.ensures c.in-Some.ensures.some (sym w.if-is_allowed.ensures.allowed) in
+      rw w.out-is (subst (λ t. g.S.TextSink.took c.args.out.now t w.put_piece.new.out) text (when_ok put (sym w.is_ok.ensures.value ∙ (sym w.result-is ∙ is)) took))
+  | else-is_allowed w ↦ λ is. absurd (false≢true (sym w.if-is_allowed.false ∙ (sym w.result-is ∙ is)))
+]

@@ -1,0 +1,158 @@
+//! Prints the v0 runs of bytes in memory before it is known which of them are symbols.
+ghost use Rattle.std.specs.Prelude.{◌≡◌, ◌-◌, [], ◌++◌, length, Some, Ok, true, false, IsTrue, IsFalse};
+ghost use Rattle.std.specs.List.{list_all};
+ghost use Rattle.std.proofs.Common.{sym, ap, ◌∙◌};
+ghost use Rattle.std.proofs.lemmas.List.{append-nil, append_assoc};
+ghost use Rattle.demangle_sink.specs.PutsPieces.{PutsPieces};
+ghost use Rattle.rustc_demangle.specs.Filtered.{is_run_byte, replacement_in};
+ghost use Rattle.rustc_demangle.specs.TextPieces.{run_pieces};
+ghost use Rattle.rustc_demangle.specs.declared.printed_first.TheConstants.{TEXT_SIZE};
+
+use crate::format::Format;
+use crate::strip::without_thin_lto;
+use crate::text::put_run;
+use crate::value::is_allowed;
+use demangle_sink::{SinkRefused, SizeLimitedFmtAdapter, SliceSink, TextSink, put_piece};
+use demangle_symbol::cursor::Looks;
+use piece_buffer::PieceArray;
+
+/// The most bytes of a text that is printed first. They are on the stack, and each text costs their
+/// clearing.
+const TEXT_SIZE: usize = 768;
+
+/// The most bytes of a run that is printed first. Few texts are longer than two times their run.
+const MAX_RUN: usize = TEXT_SIZE / 2;
+
+/// After a run that was printed in vain, runs of this many times its bytes are not printed first.
+const PAUSE: usize = 8;
+
+/// A sink that keeps a short text. It fails if it has no room for a piece.
+#[derive(Drop)]
+struct ShortText {
+    held: PieceArray<TEXT_SIZE>,
+    failed: bool,
+}
+
+impl ShortText {
+    /// Returns an empty sink that has not failed.
+    #[inline(always)]
+    fn new() -> Self
+        ensures empty { result.held ≡ [] }
+        ensures not_failed { result.failed ≡ false }
+    {
+        ShortText {
+            held: PieceArray::new(),
+            failed: false,
+        }
+    }
+}
+
+impl TextSink for ShortText {
+    ghost took = { λ s bytes t. t.held ≡ s.held ++ bytes };
+
+    ghost failed = { λ s. s.failed };
+
+    ghost room = { λ s. Some (TEXT_SIZE - length s.held) };
+
+    ghost keeps = { true };
+
+    #[inline(always)]
+    fn put(&mut self, s: &str) -> Result<(), SinkRefused> {
+        if self.held.push(s.as_bytes()) {
+            return Ok(());
+        }
+        self.failed = true;
+        Err(SinkRefused)
+    }
+
+    fn is_failed(&self) -> bool {
+        self.failed
+    }
+
+    ghost took_nothing = { λ s. sym (append-nil s.held) };
+
+    ghost took_joined = { λ s t u xs ys h k. k ∙ (ap (λ z. z ++ ys) h ∙ append_assoc s.held xs ys) };
+}
+
+/// Returns whether a run is printed first: a v0 run whose text is probably short. A lower limit
+/// would cut some texts in vain.
+#[inline(always)]
+fn is_printed_first(run: &str, format: Format) -> bool {
+    run.starts_with("_R") && run.len() <= MAX_RUN && format.limit >= TEXT_SIZE
+}
+
+/// Prints a run that is a v0 symbol, as `value::printing::print_v0_run` does, with fuel for its
+/// steps. Returns `false` also if the fuel is used up.
+#[inline(always)]
+fn print_run_within<S: TextSink>(run: &str, out: &mut S, format: Format) -> bool
+    requires run { list_all is_run_byte run.now ≡ true }
+    requires not_failed { S.failed out.old ≡ false }
+    ensures { IsTrue result →
+        S.took out.old (replacement_in format run.now) out.new }
+{
+    let text = without_thin_lto(run);
+    let mut limited = SizeLimitedFmtAdapter::new(out, format.limit);
+    let read = demangle_v0::demangle_printed_within(
+        text,
+        &mut limited,
+        format.include_hash,
+        format.fold_arguments,
+    );
+    let Some((_, suffix)) = read else {
+        return false;
+    };
+    let mut looks = Looks::new();
+    is_allowed(suffix, &mut looks) && put_piece(suffix, out).is_ok()
+}
+
+/// Prints a v0 run, and then writes its text. Returns `false` if it is still unknown whether the
+/// run is a symbol, or if the text is long. Then it writes nothing.
+// It is not inlined: its buffer and its parser need no stack while the run is read again.
+#[inline(never)]
+fn put_printed<'b>(run: &str, out: &mut SliceSink<'b>, format: Format) -> bool
+    requires run { list_all is_run_byte run.now ≡ true }
+    requires not_failed { ⟦<SliceSink<'b> as TextSink>⟧.failed out.old ≡ false }
+    ensures put { IsTrue result → PutsPieces ⟦<SliceSink<'b> as TextSink>⟧ out.old
+        (run_pieces format run.now) (Ok tt) out.new }
+    ensures kept { IsFalse result → out.new ≡ out.old }
+{
+    let mut text = ShortText::new();
+    if !print_run_within(run, &mut text, format) {
+        return false;
+    }
+    let bytes = text.held.as_slice();
+    // The pieces up to the last count would be written one by one, and some may have room.
+    if bytes.len() > usize::MAX - out.len() {
+        return false;
+    }
+    out.put_bytes(bytes).is_ok()
+}
+
+/// Writes the replacement of a run as `put_run` does, and reads a v0 run once if it can. Fails if
+/// the sink fails.
+///
+/// `pause` is the number of bytes in runs that are not printed first from here on.
+pub(crate) fn put_run_first<'b>(
+    run: &str,
+    out: &mut SliceSink<'b>,
+    format: Format,
+    pause: &mut usize,
+) -> Result<(), SinkRefused>
+    requires run { list_all is_run_byte run.now ≡ true }
+    requires not_failed { ⟦<SliceSink<'b> as TextSink>⟧.failed out.old ≡ false }
+    ensures { PutsPieces ⟦<SliceSink<'b> as TextSink>⟧ out.old (run_pieces format run.now)
+        result out.new }
+{
+    if *pause > 0 {
+        *pause = pause.saturating_sub(run.len());
+        return put_run(run, out, format);
+    }
+    if !is_printed_first(run, format) {
+        return put_run(run, out, format);
+    }
+    if put_printed(run, out, format) {
+        return Ok(());
+    }
+    *pause = run.len().saturating_mul(PAUSE);
+    put_run(run, out, format)
+}
