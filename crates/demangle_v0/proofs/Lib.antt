@@ -10,6 +10,7 @@ pub mod FunctionSteps
 pub mod ImplSteps
 pub mod LifetimeSteps
 pub mod ListSteps
+pub mod NameTexts
 pub mod PathSteps
 pub mod PatternSteps
 pub mod PrintLoop
@@ -26,3 +27,5 @@ pub mod TypeSteps
 pub mod VariantSteps
 pub mod WholePaths
 pub mod StackSplit
+pub mod StepRuns
+pub mod NestedNames

@@ -53,7 +53,7 @@ some_none m z = cc
 
 module _ {V : Type 0} (e : Env V) where
   -- the actions of a step, in order
-  abbrev bits_of : List ℕ → Option Token → List ℕ → List Action
+  abbrev pub bits_of : List ℕ → Option Token → List ℕ → List Action
   bits_of prefix None back = allows_looks prefix ∷ allows_looks back ∷ []
   bits_of prefix (Some s) back = allows_looks prefix ∷ puts (texts_of e.symbol e.form.include_hash s) ∷ allows_looks back ∷ []
 
@@ -64,7 +64,7 @@ module _ {V : Type 0} (e : Env V) where
   bits_trace prefix None back h = refl
   bits_trace prefix (Some s) back h = refl
 
-  bits_total : (prefix : List ℕ) (emitted : Option Token) (back : List ℕ) → action_looks (bits_of prefix emitted back) ≡ total prefix + total back
+  pub bits_total : (prefix : List ℕ) (emitted : Option Token) (back : List ℕ) → action_looks (bits_of prefix emitted back) ≡ total prefix + total back
   bits_total prefix None back = omega arith
   bits_total prefix (Some s) back = omega arith
 
@@ -236,7 +236,7 @@ pub weights_push : (stack : List Frame) (f : Frame) → weights (stack ++ f ∷ 
 weights_push [] f = omega arith
 weights_push (g ∷ stack) f = omega (arith, weights_push stack f)
 
-weights_pushed : (stack : List Frame) (p : Option Frame) → weights (pushed_on stack p) ≡ weights stack + weight_of p
+pub weights_pushed : (stack : List Frame) (p : Option Frame) → weights (pushed_on stack p) ≡ weights stack + weight_of p
 weights_pushed stack None = omega arith
 weights_pushed stack (Some f) = weights_push stack f
 
@@ -244,11 +244,11 @@ inner_push : (stack : List Frame) (f : Frame) → AllInner stack → is_inner f.
 inner_push [] f h k = (k, tt)
 inner_push (g ∷ stack) f h k = (h.0, inner_push stack f h.1 k)
 
-inner_pushed : (stack : List Frame) (p : Option Frame) → AllInner stack → IsInner p → AllInner (pushed_on stack p)
+pub inner_pushed : (stack : List Frame) (p : Option Frame) → AllInner stack → IsInner p → AllInner (pushed_on stack p)
 inner_pushed stack None h k = h
 inner_pushed stack (Some f) h k = inner_push stack f h k
 
-inner_below : (stack : List Frame) (f : Frame) → AllInner (stack ++ f ∷ []) → AllInner stack
+pub inner_below : (stack : List Frame) (f : Frame) → AllInner (stack ++ f ∷ []) → AllInner stack
 inner_below [] f h = tt
 inner_below (g ∷ stack) f h = (h.0, inner_below stack f h.1)
 
@@ -269,7 +269,7 @@ fit_below : (stack : List Frame) (f : Frame) → AllFit (stack ++ f ∷ []) → 
 fit_below [] f h = (tt, h.0)
 fit_below (g ∷ stack) f h = let k = fit_below stack f h.1 in ((h.0, k.0), k.1)
 
-valid_push : (p q : Continuation) (s t : State) (stack : List Frame) (f : Option Frame) → Valid p s stack → height_of f ≤ height_at p s.depth_left → height_at q t.depth_left + count_of f ≤ height_at p s.depth_left → FitsFrame f → Fits q t.depth_left t.lifetimes → t.pending_text ≡ None
+pub valid_push : (p q : Continuation) (s t : State) (stack : List Frame) (f : Option Frame) → Valid p s stack → height_of f ≤ height_at p s.depth_left → height_at q t.depth_left + count_of f ≤ height_at p s.depth_left → FitsFrame f → Fits q t.depth_left t.lifetimes → t.pending_text ≡ None
     → Valid q t (pushed_on stack f)
 valid_push p q s t stack None v x y g h k = record {
   has_room = Rattle.demangle_v0.proofs.Heights.has_room_on frame_height most_frames (height_at p s.depth_left) (height_at q t.depth_left) stack v.has_room (omega (arith, y));
@@ -338,7 +338,7 @@ module _ {V : Type 0} {e : Env V} where
   ran_resumes k = record { bits = []; emits = refl; reads = resumes_trace e.symbol e.form e.output.is_printed k; paid_looks = omega arith }
 
   -- the effect of a step above further frames
-  step_trace : {p q : Continuation} {t u : Machine V} (z : StepDone e p t (Ok q) u) (above : List Frame)
+  pub step_trace : {p q : Continuation} {t u : Machine V} (z : StepDone e p t (Ok q) u) (above : List Frame)
       → trace_left e p (record t { stack = above }) ≡ with_actions e.output.is_printed (bits_of e z.steps.0.prefix z.steps.0.emitted z.steps.0.back) (trace_left e q (record u { stack = pushed_on above z.steps.0.pushed }))
   step_trace {p} {q} {t} {u} z above =
       let d = z.steps.0 in
@@ -350,7 +350,7 @@ module _ {V : Type 0} {e : Env V} where
       ap (λ (h : Trace). and_then h (trace_of_stack e.symbol e.form out above)) one
       ∙ (bits_then out bits x (trace_of_stack e.symbol e.form out above) ∙ ap (with_actions out bits) (followed_stack e.symbol e.form out above d.pushed (trace_of_state e.symbol e.form out q u.state)))
 
-  ran_step : {p q : Continuation} {t u : Machine V} (z : StepDone e p t (Ok q) u) (above : List Frame) → RanSteps e p (record t { stack = above }) q (record u { stack = pushed_on above z.steps.0.pushed })
+  pub ran_step : {p q : Continuation} {t u : Machine V} (z : StepDone e p t (Ok q) u) (above : List Frame) → RanSteps e p (record t { stack = above }) q (record u { stack = pushed_on above z.steps.0.pushed })
   ran_step z above = let d = z.steps.0 in record {
     bits = bits_of e d.prefix d.emitted d.back;
     emits = bits_emitted e _ _ d.prefix d.emitted d.back d.emits;
@@ -358,7 +358,7 @@ module _ {V : Type 0} {e : Env V} where
     paid_looks = omega (arith, d.paid_looks, bits_total e d.prefix d.emitted d.back);
   }
 
-  ran_stepped : {p q : Continuation} {t u : Machine V} → StepDone e p t (Ok q) u → RanSteps e p t q u
+  pub ran_stepped : {p q : Continuation} {t u : Machine V} → StepDone e p t (Ok q) u → RanSteps e p t q u
   ran_stepped {p} {q} {t} {u} z = subst (λ (ys : List Frame). RanSteps e p t q (record u { stack = ys })) (sym z.steps.0.is_stack) (ran_step z t.stack)
 
   -- one iteration
@@ -440,7 +440,7 @@ module _ {V : Type 0} {e : Env V} where
 
 -- Above other frames.
 
-pushed_above : (below frames : List Frame) (f : Option Frame) → pushed_on (below ++ frames) f ≡ below ++ pushed_on frames f
+pub pushed_above : (below frames : List Frame) (f : Option Frame) → pushed_on (below ++ frames) f ≡ below ++ pushed_on frames f
 pushed_above below frames None = refl
 pushed_above below frames (Some f) = append_assoc below frames (f ∷ [])
 
@@ -448,7 +448,7 @@ module _ {V : Type 0} {e : Env V} where
   pub reads_none : {below above : List Frame} {p : Continuation} {t : Machine V} → t.stack ≡ below ++ above → AllInner above → Reads e below p (record t { stack = above }) p t
   reads_none {above = above} k i = record { frames = above; is_stack = k; inner = i; ran = ran_none }
 
-  reads_resume : {base : ℕ} {below : List Frame} {o p q : Continuation} {first t : Machine V} {s : State} {mid : List Frame} → Reads e below o first p t → length below ≡ base → ResumesAt base p t.state t.stack q s mid → Reads e below o first q (record t { state = s; stack = mid })
+  pub reads_resume : {base : ℕ} {below : List Frame} {o p q : Continuation} {first t : Machine V} {s : State} {mid : List Frame} → Reads e below o first p t → length below ≡ base → ResumesAt base p t.state t.stack q s mid → Reads e below o first q (record t { state = s; stack = mid })
   reads_resume x l (stays other k r m) = rw (k, r, m) x
   reads_resume {below = below} {p = p} {q = q} {t = t} {s = s} {mid = mid} x l (pops f k h r d m) =
       let split = above_pop below x.frames mid f (sym r ∙ x.is_stack) (omega (arith, l, h, ap length r, length-append {A = Frame} mid (f ∷ []))) in

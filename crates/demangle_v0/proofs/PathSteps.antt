@@ -29,6 +29,8 @@ use Rattle.demangle_v0_tokens.proofs.TagRows.{row_found}
 use Rattle.demangle_v0.proofs.StepRules.{group_trace, group_then, group_shut}
 use Rattle.demangle_v0.proofs.StepCases.{ended, text_step, ends, tells, halts, following, alike}
 use Rattle.demangle_symbol.proofs.Counts.{placed, byte_placed}
+use Rattle.std.proofs.lemmas.Grind.{common_steps}
+use Rattle.std.proofs.lemmas.Bool.Decides.{nat_tests}
 
 module _ {V : Type 0} (output : Ghosts V) (b : List ℕ) (form : Form) where
   -- Crates and nested paths.
@@ -128,3 +130,7 @@ module _ {V : Type 0} {e : Env V} where
   pub name_unread_refused : {t : Machine V} {s : State} {v : V} {n : ℕ} {f : SinkRefused} → t.state.place ≡ None → LooksWithin t.looks [] n → e.output.prints t.output (texts_of e.symbol e.form.include_hash NameAfterError) (Err f) v → PerformsAt e continuation.NestedName t (Err Sink) (record t { state = s; output = v; looks = n })
   unfolding parse trace_at
   name_unread_refused at p q = halts [] (omega arith) NameAfterError (empty_trace None false) (rw at refl) q (λ _. refl) p (omega (arith, p.within))
+
+-- only `N` is the tag of a nested path
+pub tag_of_nested : (c : ℕ) → Some kind.NestedName ≡ found c path_kinds → c ≡ 78
+tag_of_nested c k = grind (arith, common_steps, nat_tests)

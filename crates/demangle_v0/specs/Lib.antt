@@ -7,4 +7,5 @@ pub mod Frames
 pub mod Measure
 pub mod Productions
 pub mod Steps
+pub mod StepRuns
 pub mod Traces

@@ -1,6 +1,6 @@
 -- Internal: no public contract cites this.
 -- The effect of continuations on a parser.
-use Rattle.std.specs.Prelude.{◌≡◌, ℕ, ◌+◌, ◌-◌, Bool, false, ◌&&◌, Option, List, [], ◌∷◌, ◌++◌, length, Some, Result, Ok}
+use Rattle.std.specs.Prelude.{◌≡◌, ℕ, ◌+◌, ◌-◌, ◌≤◌, Bool, false, ◌&&◌, Option, List, [], ◌∷◌, ◌++◌, length, Some, Result, Ok}
 use Rattle.demangle_v0_grammar.specs.Traces.{Trace}
 use Rattle.demangle_v0_grammar.specs.Reading.{Form, Place}
 use Rattle.demangle_v0_grammar.specs.Items.{Items, Kind}
@@ -14,7 +14,8 @@ use Rattle.demangle_sink.specs.declared.TextSink.{Ghosts as Sinks}
 use Rattle.demangle_sink.specs.declared.limit.SizeLimitedFmtAdapter.{SizeLimitedFmtAdapter}
 use Rattle.demangle_v0.specs.Productions.{brace_after}
 use Rattle.demangle_v0.specs.Measure.{AllInner}
-use Rattle.demangle_v0.specs.Steps.{Performs, Env, CanEmit, CanRead, CanStep, StepPart, Machine, env, rest, machine, whole}
+use Rattle.demangle_v0.specs.Steps.{Performs, PerformsAt, Env, CanEmit, CanRead, CanStep, StepPart, Machine, env, rest, machine, whole}
+use Rattle.demangle_v0.specs.StepRuns.{PerformsLast, Runs, bare, name_frames, raised}
 use Rattle.demangle_v0.specs.Traces.{pushed_on, remaining_trace}
 use Rattle.demangle_v0.specs.Loops.{Valid, ReadDone, Skipped, StopsInImplPath, PrintDone, ValidUnfinished, Finishes, Ended, EndedAt, first_looks, first_state, looks_left, printing, no_output_env, no_output_machine}
 use Rattle.demangle_v0.specs.Productions.{IsProduction, target_part}
@@ -70,6 +71,10 @@ token_group is_printed m w = token_spec m.source.symbol.now w m.state.letter is_
 abbrev pub looked : {N : ℕ} → Parser N → ℕ → Parser N
 looked m n = record m { looks = n }
 
+-- only the place, whether a bracket is open, and the count of looks may change
+abbrev pub Placed : {N : ℕ} → Parser N → Parser N → Type 0
+Placed m k = k ≡ record m { state = record m.state { place = k.state.place; is_bracket_open = k.state.is_bracket_open }; looks = k.looks }
+
 abbrev pub checked_at : {N : ℕ} → Parser N → Continuation → State → Parser N
 checked_at m p s = record m { continuation = p; state = s }
 
@@ -111,6 +116,32 @@ Performed output p m v result k w = PerformsPart output (whole (env_of output m)
 -- the effect of these items, which remain of a production
 abbrev pub PerformedRest : {N : ℕ} {V : Type 0} → Ghosts V → Items → ℕ → ℕ → ℕ → Parser N → V → Result Continuation StepError → Parser N → V → Type 0
 PerformedRest output items words weight above m v result k w = PerformsPart output (rest (env_of output m) items words weight above m.state) m v result k w
+
+-- the machine of a parser with these frames
+abbrev pub machine_over : {N : ℕ} {V : Type 0} → List Frame → Parser N → V → Machine V
+machine_over stack m v = machine m.state stack v m.looks
+
+-- The effect of steps of which the last performs a continuation.
+
+abbrev pub PerformedLast : {N : ℕ} {V : Type 0} → Ghosts V → Continuation → Parser N → V → Result Continuation StepError → Parser N → V → Type 0
+PerformedLast output p m v result k w = PerformsLast (env_of output m) p (machine_of m v) result (machine_of k w)
+
+-- the same, which is the effect of that continuation alone if nothing is deferred
+abbrev pub PerformedAs : {N : ℕ} {V : Type 0} → Bool → Ghosts V → Continuation → Parser N → V → Result Continuation StepError → Parser N → V → Type 0
+PerformedAs defers output p m v result k w = PerformedLast output p m v result k w × (defers ≡ false → Performed output p m v result k w) × Same m k × (m.looks ≤ k.looks)
+
+-- The frames of `count` nested paths are not on the stack of `k`, which is after the path in them. The names of these
+-- paths lead to the result at `m`.
+abbrev pub NamesEnd : {N : ℕ} {V : Type 0} → Ghosts V → ℕ → ℕ → Parser N → V → Result Continuation StepError → Parser N → V → Type 0
+NamesEnd {V = V} output count outer k v result m w =
+    (p : Continuation) (before : Machine V) → Runs (env_of output k) p (bare before) continuation.End (machine_over (name_frames k.state.in_value k.state.lifetimes outer count) k v) → before.stack ≡ k.stack → PerformsLast (env_of output k) p before result (machine_of m w)
+
+-- the same, if the path in them was performed with this result
+abbrev pub NamesFollow : {N : ℕ} {V : Type 0} → Ghosts V → Result Continuation StepError → ℕ → ℕ → Parser N → V → Result Continuation StepError → Parser N → V → Type 0
+NamesFollow {V = V} output performed count outer k v result m w =
+    let frames = name_frames k.state.in_value k.state.lifetimes outer count in
+    (p at : Continuation) (before mid : Machine V) → Runs (env_of output k) p (bare before) at mid → before.stack ≡ k.stack → mid.stack ≡ frames
+    → PerformsAt (env_of output k) at (raised before.stack mid) performed (machine_over (k.stack ++ frames) k v) → PerformsLast (env_of output k) p before result (machine_of m w)
 
 -- when a token may be printed
 abbrev pub CanPrint : {N : ℕ} {V : Type 0} → Ghosts V → Parser N → V → Type 0

@@ -27,12 +27,9 @@ use Rattle.demangle_v0.specs.Steps.{Env, StepPart, env, part}
 
 -- The items, frames and continuations that the contracts of continuations name.
 
--- the items after the `C` of a crate's path, and after the `N` of a nested path
+-- the items after the `C` of a crate's path
 abbrev pub crate_path : Bool → Items
 crate_path v = path v (code "C")
-
-abbrev pub nested_path : Bool → Items
-nested_path v = path v (code "N")
 
 -- the items after the `R` of a string or a reference, and after the `V` of a variant
 abbrev pub shared_constant : Bool → Items
@@ -47,6 +44,7 @@ brace_after s = if s.in_value then None else Some (frame_of continuation.CloseBr
 
 -- the continuations that run out of line
 abbrev pub out_of_line_continuation : OutOfLine → Continuation
+out_of_line_continuation out_of_line.Lifetime = continuation.Lifetime
 out_of_line_continuation out_of_line.FunctionQualifiers = continuation.FunctionQualifiers
 out_of_line_continuation out_of_line.DynBinder = continuation.DynBinder
 out_of_line_continuation out_of_line.BindingName = continuation.BindingName

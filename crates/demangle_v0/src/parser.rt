@@ -24,6 +24,7 @@ mod impls;
 mod lists;
 pub mod machine;
 mod names;
+mod nested_names;
 mod out_of_line;
 mod paths;
 mod patterns;
@@ -206,7 +207,7 @@ pub struct State {
     place: Option<usize>,
     /// Whether the `<` of the last dyn trait path is still open.
     is_bracket_open: bool,
-    /// The fixed text that `step` prints after the continuation's method returns.
+    /// The fixed text that `steps` prints after the continuation's method returns.
     pending_text: Option<FixedText>,
 }
 

@@ -199,7 +199,7 @@ fn continues_on(parser: &mut Parser<'_, FULL_STACK>, sink: &mut CountingSink) ->
         costs_of: 0,
         last: Token::Nothing,
     };
-    let Ok(next) = parser.step(at, &mut output) else {
+    let Ok(next) = parser.steps(at, false, &mut output) else {
         return None;
     };
     parser.continuation = next;

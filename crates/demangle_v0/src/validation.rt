@@ -90,7 +90,7 @@ impl Parser<'_, SHORT_STACK> {
 
     /// Reads the path at a place, with no frames on the stack. Returns the place after it, and then
     /// leaves no frames. Returns `None` after an error.
-    fn path_end(&mut self, place: usize) -> Option<usize>
+    pub(crate) fn path_end(&mut self, place: usize) -> Option<usize>
         requires empty { self.old.stack ≡ [] }
         requires whole { self.old.source.fold_arguments ≡ false }
         ensures value { result ≡ unit_end self.old.source.symbol.now a_path place 0 }
@@ -141,9 +141,10 @@ pub fn suffix_at(symbol: &Symbol<'_>, looks: &mut Looks) -> Option<usize>
     ensures looks { looks.new + suffix_looks symbol.now result ≤ looks.old + accepting_looks
         symbol.now }
 {
+    // Without the hashes, the disambiguators of crates get no value.
     let source = Source {
         symbol,
-        include_hash: true,
+        include_hash: false,
         fold_arguments: false,
     };
     let mut parser: Parser<SHORT_STACK> = Parser::at_path(source, 0, looks);

@@ -1,17 +1,63 @@
 //! The names of crates and of nested paths, which are read and printed.
-ghost use Rattle.std.specs.Prelude.{◌≡◌, ◌≤◌, true, None, IsAscii, OnOk};
-ghost use Rattle.demangle_v0.specs.Parsers.{Performed, PerformedRest, CanPrint, looked};
+ghost use Rattle.std.specs.Prelude.{◌≡◌, ℕ, ◌+◌, ◌≤◌, true, None, Some, IfNone, IfOk, IfSome, IsAscii, MatchOption, OnOk};
+ghost use Rattle.demangle_v0.specs.Parsers.{Performed, PerformedRest, Placed, CanPrint, looked};
 ghost use Rattle.demangle_v0.specs.Productions.{crate_path};
-ghost use Rattle.demangle_v0_tokens.specs.Tokens.{texts_of};
+ghost use Rattle.demangle_v0_grammar.specs.LookTotals.{total};
+ghost use Rattle.demangle_v0_tokens.specs.Tokens.{named_group, texts_of};
+ghost use Rattle.demangle_symbol.specs.Idents.{IsIdentWithin, name_size};
+ghost use Rattle.demangle_symbol.specs.Primitives.{is_upper};
+ghost use Rattle.demangle_v0_tokens.specs.declared.read.TokenOutcome.TheVariants.{Parsed, NotParsed};
+ghost use Rattle.demangle_v0_tokens.specs.declared.token.Token.{Token};
 ghost use Rattle.demangle_v0_tokens.specs.declared.token.Token.TheVariants as Token;
+ghost use Rattle.demangle_v0_tokens.specs.declared.fixed_texts.FixedText.{FixedText};
+ghost use Rattle.demangle_symbol.specs.declared.cursor.ident.Ident.{Ident};
 
 use crate::parser::machine::Parser;
 use crate::parser::{Continuation, StepError};
 use demangle_sink::SinkRefused;
+use demangle_symbol::cursor::{Ident, Looks, Symbol};
 use demangle_v0_tokens::fixed_texts::FixedText;
 use demangle_v0_tokens::output::Output;
-use demangle_v0_tokens::read::names::disambiguated_name;
 use demangle_v0_tokens::token::Token;
+
+/// Returns `true` if the names of a namespace are printed with their disambiguators.
+#[inline(always)]
+fn is_special(namespace: u8) -> bool
+    ensures { result ≡ is_upper namespace }
+{
+    match namespace {
+        b'A'..=b'Z' => true,
+        _ => false,
+    }
+}
+
+/// Reads a name after its disambiguator. Returns the name, the disambiguator and the place after
+/// both, or `None` if they are not spelled there. The disambiguator is 0 if it is not needed.
+#[inline(always)]
+fn name_at(
+    symbol: &Symbol<'_>,
+    needs_number: bool,
+    place: usize,
+    looks: &mut Looks,
+) -> Option<(Ident, u64, usize)>
+    ensures some { (f : Ident → ℕ → Token) → IfSome result (λ r. (d : ℕ) × (needs_number ≡ true → d ≡ r.1)
+        × (Parsed (f r.0 d) (Some r.2) ≡ (named_group symbol.now place f).reads)) }
+    ensures none { (f : Ident → ℕ → Token) → IfNone result (NotParsed FixedText.Invalid ≡ (named_group
+        symbol.now place f).reads) }
+    ensures grows { looks.old ≤ looks.new }
+    ensures looks { (f : Ident → ℕ → Token) → MatchOption result (looks.new ≤ looks.old + total
+        (named_group symbol.now place f).costs) (λ r. looks.new + name_size r.0 ≤ looks.old + total
+        (named_group symbol.now place f).costs) }
+    ensures in_bounds { IfSome result (λ r. IsIdentWithin symbol.now r.0) }
+{
+    let Ok((number, at)) = symbol.disambiguator_if(needs_number, place, looks) else {
+        return None;
+    };
+    let Ok((name, next)) = symbol.ident(at, looks) else {
+        return None;
+    };
+    Some((name, number, next))
+}
 
 impl<const N: usize> Parser<'_, N> {
     /// Reads and prints the name of a crate, which ends its path.
@@ -23,9 +69,13 @@ impl<const N: usize> Parser<'_, N> {
         requires can_step { CanPrint V.Output self.old output.old }
         ensures performs { PerformedRest V.Output (crate_path self.old.state.in_value) 6 1 0 self.old
             output.old result self.new output.new }
+        ensures ends { IfOk result (λ next. next ≡ Continuation.End) }
+        ensures placed { Placed self.old self.new }
     {
         let at = self.state.place_or_abort()?;
-        let named = disambiguated_name(self.source.symbol, at, &mut self.looks);
+        // A crate's disambiguator is its hash.
+        let has_hash = self.source.include_hash;
+        let named = name_at(self.source.symbol, has_hash, at, &mut self.looks);
         let (name, number, next) = named.ok_or(StepError::Abort(FixedText::Invalid))?;
         self.state.place = Some(next);
         self.state.is_bracket_open = false;
@@ -53,6 +103,8 @@ impl<const N: usize> Parser<'_, N> {
         requires can_step { CanPrint V.Output self.old output.old }
         requires failed { self.old.state.place ≡ None }
         ensures performs { Performed V.Output Continuation.NestedName self.old output.old result self.new output.new }
+        ensures ends { IfOk result (λ next. next ≡ Continuation.End) }
+        ensures placed { Placed self.old self.new }
     {
         self.state.is_bracket_open = false;
         self.emit_name_after_error(output)?;
@@ -67,11 +119,14 @@ impl<const N: usize> Parser<'_, N> {
     ) -> Result<Continuation, StepError>
         requires can_step { CanPrint V.Output self.old output.old }
         ensures performs { Performed V.Output Continuation.NestedName self.old output.old result self.new output.new }
+        ensures ends { IfOk result (λ next. next ≡ Continuation.End) }
+        ensures placed { Placed self.old self.new }
     {
         let Some(at) = self.state.place else {
             return self.name_after_error(output);
         };
-        let named = disambiguated_name(self.source.symbol, at, &mut self.looks);
+        let is_special = is_special(self.state.letter);
+        let named = name_at(self.source.symbol, is_special, at, &mut self.looks);
         let (ident, number, next) = named.ok_or(StepError::Abort(FixedText::Invalid))?;
         self.state.place = Some(next);
         self.state.is_bracket_open = false;

@@ -1,7 +1,6 @@
 //! Continuations of paths.
-ghost use Rattle.std.specs.Prelude.{◌+◌, ◌≤◌, Ok};
-ghost use Rattle.demangle_v0.specs.Parsers.{Performed, PerformedRest, CanPerform, CanAdvance, AdvancedRest};
-ghost use Rattle.demangle_v0.specs.Productions.{nested_path};
+ghost use Rattle.std.specs.Prelude.{◌≡◌, ◌+◌, ◌≤◌, false, Ok};
+ghost use Rattle.demangle_v0.specs.Parsers.{Performed, PerformedLast, PerformedRest, CanPerform, CanAdvance, AdvancedRest, Same};
 ghost use Rattle.demangle_v0.specs.Loops.{first_looks};
 ghost use Rattle.demangle_v0_grammar.specs.Table.{path};
 ghost use Rattle.demangle_v0_tokens.specs.Tags.{path_of};
@@ -13,19 +12,6 @@ use demangle_v0_tokens::output::Output;
 use demangle_v0_tokens::tags::{PathKind, path_kind};
 
 impl<const N: usize> Parser<'_, N> {
-    /// Reads the namespace of a nested path after its `N`, and starts the path before the name.
-    #[inline(always)]
-    fn nested_path(&mut self) -> Result<Continuation, StepError>
-        requires can_step { CanAdvance Continuation.NestedName self.old }
-        ensures performs { AdvancedRest (nested_path self.old.state.in_value) 6 1 9 self.old result self.new }
-    {
-        let at = self.state.place_or_abort()?;
-        let (letter, next) = self.source.symbol.namespace(at, &mut self.looks)?;
-        self.push_lettered(Continuation::NestedName, letter);
-        self.state.place = Some(next);
-        Ok(Continuation::Path)
-    }
-
     /// Starts the path that has generic arguments, after its `I`.
     #[inline(always)]
     fn generic_path(&mut self) -> Continuation
@@ -37,17 +23,20 @@ impl<const N: usize> Parser<'_, N> {
         Continuation::Path
     }
 
-    /// Starts a path after its tag. It fails if no path has this tag.
+    /// Starts a path after its tag, which is not that of a nested path. It fails if no path has this
+    /// tag.
     #[inline(always)]
     fn tagged_path<V: Output>(&mut self, tag: u8, output: &mut V) -> Result<Continuation, StepError>
         requires can_step { CanPerform V.Output Continuation.Path self.old output.old }
+        requires not_nested { tag ≡ 78 → ⊥ }
         ensures performs { PerformedRest V.Output (path self.old.state.in_value tag) 6 8 9 self.old output.old
             result self.new output.new }
     {
         let kind = path_kind(tag).ok_or(StepError::Abort(FixedText::Invalid))?;
         match kind {
             PathKind::CrateRoot => self.crate_name(output),
-            PathKind::NestedName => self.nested_path(),
+            // `path` reads nested paths itself.
+            PathKind::NestedName => Ok(Continuation::Path),
             PathKind::Generic => Ok(self.generic_path()),
             PathKind::Backref => self.follow_backref(Continuation::Path, output),
             PathKind::InherentImpl => self.impl_disambiguator(false),
@@ -57,18 +46,67 @@ impl<const N: usize> Parser<'_, N> {
     }
 
     /// Reads the tag of a path, and starts the path one level deeper.
+    ///
+    /// If `defers` is true, the tags of paths that are nested in one another are read together. No
+    /// frame is pushed for them before another path than a crate is in the innermost. The names of
+    /// the others are read and printed after that of the crate.
+    // Most paths are nested in two or three others, and their names need no steps of their own.
     #[inline(always)]
-    pub(super) fn path<V: Output>(&mut self, output: &mut V) -> Result<Continuation, StepError>
+    pub(super) fn path<V: Output>(
+        &mut self,
+        defers: bool,
+        output: &mut V,
+    ) -> Result<Continuation, StepError>
         requires can_step { CanPerform V.Output Continuation.Path self.old output.old }
-        ensures performs { Performed V.Output Continuation.Path self.old output.old result self.new output.new }
+        ensures performs { PerformedLast V.Output Continuation.Path self.old output.old result self.new output.new }
+        ensures single { defers ≡ false → Performed V.Output Continuation.Path self.old output.old
+            result self.new output.new }
+        ensures same { Same self.old self.new }
+        ensures grows { self.old.looks ≤ self.new.looks }
         ensures least { self.old.looks + first_looks Continuation.Path self.old.state ≤ self.new.looks }
     {
-        let at = self.state.place_or_abort()?;
+        let mut at = self.state.place_or_abort()?;
+        let outer = self.state.depth_left;
+        let mut count: u16 = 0;
         // The depth is tested before the tag here, and after it for a type or a constant. The Rust
         // crate reports errors in this order.
-        self.enter()?;
-        let (tag, next) = self.source.symbol.tag(at, &mut self.looks)?;
-        self.state.place = Some(next);
-        self.tagged_path(tag, output)
+        'paths: while count < outer {
+            let left = outer - count - 1;
+            let Ok((tag, next)) = self.source.symbol.tag(at, &mut self.looks) else {
+                self.push_names(count, outer);
+                return Err(StepError::Abort(FixedText::Invalid));
+            };
+            if tag != b'N' {
+                self.state.depth_left = left;
+                self.state.place = Some(next);
+                if tag == b'C' {
+                    let performed = self.crate_name(output);
+                    if count == 0 {
+                        return performed;
+                    }
+                    return self.names_after(performed, count, outer, output);
+                }
+                self.push_names(count, outer);
+                return self.tagged_path(tag, output);
+            }
+            let Ok((letter, after)) = self.source.symbol.namespace(next, &mut self.looks) else {
+                self.push_names(count, outer);
+                return Err(StepError::Abort(FixedText::Invalid));
+            };
+            if !defers
+                | letter.is_ascii_uppercase()
+                | (N - self.stack.len() <= usize::from(count) + 1)
+            {
+                self.push_names(count, outer);
+                self.state.depth_left = left;
+                self.state.place = Some(after);
+                self.push_lettered(Continuation::NestedName, letter);
+                return Ok(Continuation::Path);
+            }
+            count += 1;
+            at = after;
+        }
+        self.push_names(count, outer);
+        Err(StepError::Abort(FixedText::Recursion))
     }
 }

@@ -4,6 +4,7 @@ ghost use Rattle.demangle_v0.specs.Parsers.{CanPerform, Same, env_of, restated, 
 ghost use Rattle.demangle_v0.specs.Steps.{looks_bound, resumed_of};
 ghost use Rattle.demangle_v0.specs.Loops.{FlushesText, StepDone, ResumesAt, first_looks, without_pending_text};
 ghost use Rattle.demangle_v0.specs.Skips.{is_skipped};
+ghost use Rattle.demangle_v0.specs.StepRuns.{StepsDone};
 
 use crate::parser::frames::Frame;
 use crate::parser::machine::Parser;
@@ -53,29 +54,33 @@ impl<const N: usize> Parser<'_, N> {
     }
 
     /// Runs a continuation, which may read and print a token, and prints the fixed text that it
-    /// queued. Returns the next continuation.
+    /// queued. Returns the next continuation. If `defers` is true, a path is run together with those
+    /// that are nested in one another, and with their names.
     ///
     /// Fails if the output does. A parse that prints never runs an impl path or folded arguments
     /// here, because those are not printed.
     #[inline(always)]
-    pub(crate) fn step<V: Output>(
+    pub(crate) fn steps<V: Output>(
         &mut self,
         continuation: Continuation,
+        defers: bool,
         output: &mut V,
     ) -> Result<Continuation, SinkRefused>
         requires can_step { CanPerform V.Output continuation self.old output.old }
         requires unskipped { V.is_printed ≡ true → is_skipped
             self.old.source.fold_arguments continuation ≡ false }
-        ensures stepped { StepDone (env_of V.Output self.old) continuation (machine_of self.old output.old)
+        ensures stepped { StepsDone (env_of V.Output self.old) continuation (machine_of self.old output.old)
             result (machine_of self.new output.new) }
+        ensures single { defers ≡ false → StepDone (env_of V.Output self.old) continuation
+            (machine_of self.old output.old) result (machine_of self.new output.new) }
         ensures same { Same self.old self.new }
         ensures ready { IsOk result → V.ready output.new }
         ensures grows { self.old.looks ≤ self.new.looks }
-        ensures own_looks { self.new.looks ≤ self.old.looks + looks_bound 20 self.old.source.symbol.now
-            self.old.state.place }
+        ensures own_looks { defers ≡ false → self.new.looks ≤ self.old.looks +
+            looks_bound 20 self.old.source.symbol.now self.old.state.place }
         ensures least { self.old.looks + first_looks continuation self.old.state ≤ self.new.looks }
     {
-        match self.dispatch(continuation, output) {
+        match self.dispatch(continuation, defers, output) {
             Ok(next) => {
                 self.flush_pending_text(output)?;
                 Ok(next)

@@ -78,7 +78,7 @@ impl<const N: usize> Parser<'_, N> {
                 self.continuation = Continuation::End;
                 return ReadOutcome::Complete;
             };
-            match self.step(at, &mut NoOutput) {
+            match self.steps(at, true, &mut NoOutput) {
                 Ok(next) => continuation = next,
                 Err(_) => return ReadOutcome::Failed,
             }

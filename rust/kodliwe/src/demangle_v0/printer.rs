@@ -44,7 +44,7 @@ impl<const N: usize> Parser<'_, N> {
                 }
                 continuation = self.continuation;
             } else {
-                continuation = self.step(at, out)?;
+                continuation = self.steps(at, true, out)?;
             }
         }
         self.continuation = continuation;

@@ -58,7 +58,7 @@ impl Parser<'_, SHORT_STACK> {
 
     /// Reads the path at a place, with no frames on the stack. Returns the place after it, and then
     /// leaves no frames. Returns `None` after an error.
-    fn path_end(&mut self, place: usize) -> Option<usize> {
+    pub(crate) fn path_end(&mut self, place: usize) -> Option<usize> {
         self.start_path(place);
         match self.read_steps(0) {
             ReadOutcome::Complete => self.place(),
@@ -88,9 +88,10 @@ impl Parser<'_, SHORT_STACK> {
 
 /// Returns the place of the suffix after one path or two, or `None` if they have an error.
 pub fn suffix_at(symbol: &Symbol<'_>, looks: &mut Looks) -> Option<usize> {
+    // Without the hashes, the disambiguators of crates get no value.
     let source = Source {
         symbol,
-        include_hash: true,
+        include_hash: false,
         fold_arguments: false,
     };
     let mut parser: Parser<SHORT_STACK> = Parser::at_path(source, 0, looks);

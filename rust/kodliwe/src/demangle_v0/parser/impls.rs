@@ -13,7 +13,7 @@ impl<const N: usize> Parser<'_, N> {
             return Err(StepError::Abort(FixedText::AfterError));
         };
         // The disambiguator distinguishes the impls of a module, and is not printed.
-        let Ok((_, next)) = self.source.symbol.opt_integer_62(b's', at, &mut self.looks) else {
+        let Ok(next) = self.source.symbol.after_disambiguator(at, &mut self.looks) else {
             return Err(StepError::Abort(FixedText::Invalid));
         };
         self.state.place = Some(next);

@@ -2,12 +2,39 @@
 //! The names of crates and of nested paths, which are read and printed.
 
 use crate::demangle_sink::SinkRefused;
+use crate::demangle_symbol::cursor::{Ident, Looks, Symbol};
 use crate::demangle_v0::parser::machine::Parser;
 use crate::demangle_v0::parser::{Continuation, StepError};
 use crate::demangle_v0_tokens::fixed_texts::FixedText;
 use crate::demangle_v0_tokens::output::Output;
-use crate::demangle_v0_tokens::read::names::disambiguated_name;
 use crate::demangle_v0_tokens::token::Token;
+
+/// Returns `true` if the names of a namespace are printed with their disambiguators.
+#[inline(always)]
+fn is_special(namespace: u8) -> bool {
+    match namespace {
+        b'A'..=b'Z' => true,
+        _ => false,
+    }
+}
+
+/// Reads a name after its disambiguator. Returns the name, the disambiguator and the place after
+/// both, or `None` if they are not spelled there. The disambiguator is 0 if it is not needed.
+#[inline(always)]
+fn name_at(
+    symbol: &Symbol<'_>,
+    needs_number: bool,
+    place: usize,
+    looks: &mut Looks,
+) -> Option<(Ident, u64, usize)> {
+    let Ok((number, at)) = symbol.disambiguator_if(needs_number, place, looks) else {
+        return None;
+    };
+    let Ok((name, next)) = symbol.ident(at, looks) else {
+        return None;
+    };
+    Some((name, number, next))
+}
 
 impl<const N: usize> Parser<'_, N> {
     /// Reads and prints the name of a crate, which ends its path.
@@ -17,7 +44,9 @@ impl<const N: usize> Parser<'_, N> {
         output: &mut V,
     ) -> Result<Continuation, StepError> {
         let at = self.state.place_or_abort()?;
-        let named = disambiguated_name(self.source.symbol, at, &mut self.looks);
+        // A crate's disambiguator is its hash.
+        let has_hash = self.source.include_hash;
+        let named = name_at(self.source.symbol, has_hash, at, &mut self.looks);
         let (name, number, next) = named.ok_or(StepError::Abort(FixedText::Invalid))?;
         self.state.place = Some(next);
         self.state.is_bracket_open = false;
@@ -48,7 +77,8 @@ impl<const N: usize> Parser<'_, N> {
         let Some(at) = self.state.place else {
             return self.name_after_error(output);
         };
-        let named = disambiguated_name(self.source.symbol, at, &mut self.looks);
+        let is_special = is_special(self.state.letter);
+        let named = name_at(self.source.symbol, is_special, at, &mut self.looks);
         let (ident, number, next) = named.ok_or(StepError::Abort(FixedText::Invalid))?;
         self.state.place = Some(next);
         self.state.is_bracket_open = false;

@@ -8,16 +8,6 @@ use crate::demangle_v0_tokens::output::Output;
 use crate::demangle_v0_tokens::tags::{PathKind, path_kind};
 
 impl<const N: usize> Parser<'_, N> {
-    /// Reads the namespace of a nested path after its `N`, and starts the path before the name.
-    #[inline(always)]
-    fn nested_path(&mut self) -> Result<Continuation, StepError> {
-        let at = self.state.place_or_abort()?;
-        let (letter, next) = self.source.symbol.namespace(at, &mut self.looks)?;
-        self.push_lettered(Continuation::NestedName, letter);
-        self.state.place = Some(next);
-        Ok(Continuation::Path)
-    }
-
     /// Starts the path that has generic arguments, after its `I`.
     #[inline(always)]
     fn generic_path(&mut self) -> Continuation {
@@ -25,7 +15,8 @@ impl<const N: usize> Parser<'_, N> {
         Continuation::Path
     }
 
-    /// Starts a path after its tag. It fails if no path has this tag.
+    /// Starts a path after its tag, which is not that of a nested path. It fails if no path has this
+    /// tag.
     #[inline(always)]
     fn tagged_path<V: Output>(
         &mut self,
@@ -35,7 +26,8 @@ impl<const N: usize> Parser<'_, N> {
         let kind = path_kind(tag).ok_or(StepError::Abort(FixedText::Invalid))?;
         match kind {
             PathKind::CrateRoot => self.crate_name(output),
-            PathKind::NestedName => self.nested_path(),
+            // `path` reads nested paths itself.
+            PathKind::NestedName => Ok(Continuation::Path),
             PathKind::Generic => Ok(self.generic_path()),
             PathKind::Backref => self.follow_backref(Continuation::Path, output),
             PathKind::InherentImpl => self.impl_disambiguator(false),
@@ -45,14 +37,59 @@ impl<const N: usize> Parser<'_, N> {
     }
 
     /// Reads the tag of a path, and starts the path one level deeper.
+    ///
+    /// If `defers` is true, the tags of paths that are nested in one another are read together. No
+    /// frame is pushed for them before another path than a crate is in the innermost. The names of
+    /// the others are read and printed after that of the crate.
+    // Most paths are nested in two or three others, and their names need no steps of their own.
     #[inline(always)]
-    pub(super) fn path<V: Output>(&mut self, output: &mut V) -> Result<Continuation, StepError> {
-        let at = self.state.place_or_abort()?;
+    pub(super) fn path<V: Output>(
+        &mut self,
+        defers: bool,
+        output: &mut V,
+    ) -> Result<Continuation, StepError> {
+        let mut at = self.state.place_or_abort()?;
+        let outer = self.state.depth_left;
+        let mut count: u16 = 0;
         // The depth is tested before the tag here, and after it for a type or a constant. The Rust
         // crate reports errors in this order.
-        self.enter()?;
-        let (tag, next) = self.source.symbol.tag(at, &mut self.looks)?;
-        self.state.place = Some(next);
-        self.tagged_path(tag, output)
+        'paths: while count < outer {
+            let left = outer - count - 1;
+            let Ok((tag, next)) = self.source.symbol.tag(at, &mut self.looks) else {
+                self.push_names(count, outer);
+                return Err(StepError::Abort(FixedText::Invalid));
+            };
+            if tag != b'N' {
+                self.state.depth_left = left;
+                self.state.place = Some(next);
+                if tag == b'C' {
+                    let performed = self.crate_name(output);
+                    if count == 0 {
+                        return performed;
+                    }
+                    return self.names_after(performed, count, outer, output);
+                }
+                self.push_names(count, outer);
+                return self.tagged_path(tag, output);
+            }
+            let Ok((letter, after)) = self.source.symbol.namespace(next, &mut self.looks) else {
+                self.push_names(count, outer);
+                return Err(StepError::Abort(FixedText::Invalid));
+            };
+            if !defers
+                | letter.is_ascii_uppercase()
+                | (N - self.stack.len() <= usize::from(count) + 1)
+            {
+                self.push_names(count, outer);
+                self.state.depth_left = left;
+                self.state.place = Some(after);
+                self.push_lettered(Continuation::NestedName, letter);
+                return Ok(Continuation::Path);
+            }
+            count += 1;
+            at = after;
+        }
+        self.push_names(count, outer);
+        Err(StepError::Abort(FixedText::Recursion))
     }
 }

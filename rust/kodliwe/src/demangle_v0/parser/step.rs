@@ -37,17 +37,19 @@ impl<const N: usize> Parser<'_, N> {
     }
 
     /// Runs a continuation, which may read and print a token, and prints the fixed text that it
-    /// queued. Returns the next continuation.
+    /// queued. Returns the next continuation. If `defers` is true, a path is run together with those
+    /// that are nested in one another, and with their names.
     ///
     /// Fails if the output does. A parse that prints never runs an impl path or folded arguments
     /// here, because those are not printed.
     #[inline(always)]
-    pub(crate) fn step<V: Output>(
+    pub(crate) fn steps<V: Output>(
         &mut self,
         continuation: Continuation,
+        defers: bool,
         output: &mut V,
     ) -> Result<Continuation, SinkRefused> {
-        match self.dispatch(continuation, output) {
+        match self.dispatch(continuation, defers, output) {
             Ok(next) => {
                 self.flush_pending_text(output)?;
                 Ok(next)

@@ -1,4 +1,5 @@
 use Rattle.std.proofs.Common.{true, false, arith, refl}
+use Rattle.demangle_symbol.proofs.IntegerEnds.{end_read, end_unread}
 use Rattle.demangle_v0.proofs.ImplSteps.{impl_unread, impl_stops, impl_continues}
 use Rattle.demangle_v0.proofs.parser.machine.Parser.impl_disambiguator.Goals as goal
 
@@ -11,11 +12,12 @@ returns-in_default g c = record {
   };
 }
 
-pub returns-in_default-opt_integer_62 : goal.returns-in_default-opt_integer_62
-returns-in_default-opt_integer_62 g c = record {
+pub returns-in_default-after_disambiguator : goal.returns-in_default-after_disambiguator
+returns-in_default-after_disambiguator g c = record {
   performs = λ p. record {
-    does = impl_stops c.args.is_trait c.in-Some.at c.in-Some.is c.in_default-opt_integer_62.ensures.read
-        (record { grows = omega arith; within = omega (arith, c.in_default-opt_integer_62.ensures.err_looks) })
+    does = impl_stops c.args.is_trait c.in-Some.at c.in-Some.is
+        (end_unread _ c.in_default-after_disambiguator.ensures.read)
+        (record { grows = omega arith; within = omega (arith, c.in_default-after_disambiguator.ensures.err_looks) })
         c.requires.can_step.no_pending_text;
     same = (refl, refl, refl);
   };
@@ -24,7 +26,7 @@ returns-in_default-opt_integer_62 g c = record {
 pub returns-then-is_trait : goal.returns-then-is_trait
 returns-then-is_trait g c = record {
   performs = λ p. rw c.if-is_trait.true (record {
-    does = impl_continues true c.in-Some.at _ c.in-Ok.next c.in-Some.is c.in-Ok.ensures.read (record {
+    does = impl_continues true c.in-Some.at _ c.in-Ok.next c.in-Some.is (end_read _ _ c.in-Ok.ensures.read).1 (record {
       grows = omega arith;
       within = omega (arith, c.in-Ok.ensures.ok_looks);
     }) c.requires.can_step.no_pending_text c.requires.can_step.fits;
@@ -35,7 +37,7 @@ returns-then-is_trait g c = record {
 pub returns : goal.returns
 returns g c = record {
   performs = λ p. rw c.if-is_trait.false (record {
-    does = impl_continues false c.in-Some.at _ c.in-Ok.next c.in-Some.is c.in-Ok.ensures.read
+    does = impl_continues false c.in-Some.at _ c.in-Ok.next c.in-Some.is (end_read _ _ c.in-Ok.ensures.read).1
         (record { grows = omega arith; within = omega (arith, c.in-Ok.ensures.ok_looks) }) c.requires.can_step.no_pending_text
         c.requires.can_step.fits;
     same = (refl, refl, refl);

@@ -1,8 +1,9 @@
 use Rattle.std.proofs.Common.{Ok, Some, arith, refl, sym, ◌∙◌}
 use Rattle.demangle_v0.specs.Parsers.{source_form, Same}
 use Rattle.demangle_v0.specs.Loops.{printing}
-use Rattle.demangle_v0.proofs.Parsers.{left_as, stepped_as}
-use Rattle.demangle_v0.proofs.LoopLemmas.{valid_resumes, resumes_length, valid_steps, machine_less, first_resumes, ran_then, ran_resumes, ran_machine, ran_broke}
+use Rattle.demangle_v0.proofs.Parsers.{left_as}
+use Rattle.demangle_v0.proofs.StepRuns.{steps_as, steps_broke, steps_less, steps_ran, steps_valid}
+use Rattle.demangle_v0.proofs.LoopLemmas.{valid_resumes, resumes_length, first_resumes, ran_then, ran_resumes}
 use Rattle.demangle_v0.proofs.PrintLoop.{ran_fail, ran_left, ran_skips}
 use Rattle.demangle_v0.proofs.ImplPathSteps.{skip_unread, skipped_valid, skipped_less, skips_valid}
 use Rattle.demangle_v0.proofs.parser.machine.Parser.print_steps.Goals as goal
@@ -38,30 +39,30 @@ steps-preserved-then-is_skipped g c =
       least = omega (arith, c.steps.invariant.least, c.in-Some.ensures.looks, c.in_default-skipped.ensures.grows, first_resumes c.in-Some.ensures.some, skip_unread c.args.self.now.source.fold_arguments _ c.resume.new.self.state skips);
     }
 
-pub step-requires : goal.step-requires
-step-requires g c =
+pub steps-requires : goal.steps-requires
+steps-requires g c =
     let same : Same c.args.self.now c.resume.new.self = (c.in-Some.ensures.same.0 ∙ c.steps.invariant.same.0, c.in-Some.ensures.same.1 ∙ c.steps.invariant.same.1, c.in-Some.ensures.same.2 ∙ c.steps.invariant.same.2) in
     let v = valid_resumes c.steps.invariant.valid c.in-Some.ensures.some in
     (omega arith, (record { ascii = λ _. rw same.0 c.requires.ascii; ready = c.steps.invariant.ready; no_pending_text = v.no_pending_text; room = omega (arith, resumes_length c.in-Some.ensures.some, c.steps-test.true, c.len.ensures); fits = v.fits }, λ z. sym c.is_skipped.ensures ∙ c.if-is_skipped.false))
 
 pub returns-in_err-continuation-clause-ran : goal.returns-in_err-continuation-clause-ran
 returns-in_err-continuation-clause-ran g c =
-    let d = stepped_as (printing g.S.TextSink c.args.self.now.source.symbol.now (source_form c.args.self.now.source)).output c.args.self.now c.resume.new.self (c.in-Some.ensures.same.0 ∙ c.steps.invariant.same.0, c.in-Some.ensures.same.1 ∙ c.steps.invariant.same.1, c.in-Some.ensures.same.2 ∙ c.steps.invariant.same.2) c.in_err-continuation.ensures.stepped in
-    ran_fail c.from_residual.ensures.0 (ran_broke c.steps.invariant.ran c.in-Some.ensures.some (rw c.in-Some.ensures.looks at d))
+    let d = steps_as (printing g.S.TextSink c.args.self.now.source.symbol.now (source_form c.args.self.now.source)).output c.args.self.now c.resume.new.self (c.in-Some.ensures.same.0 ∙ c.steps.invariant.same.0, c.in-Some.ensures.same.1 ∙ c.steps.invariant.same.1, c.in-Some.ensures.same.2 ∙ c.steps.invariant.same.2) c.in_err-continuation.ensures.stepped in
+    ran_fail c.from_residual.ensures.0 (steps_broke c.steps.invariant.ran c.in-Some.ensures.some (rw c.in-Some.ensures.looks at d))
 
 pub steps-smaller : goal.steps-smaller
 steps-smaller g c =
-    let d = stepped_as (printing g.S.TextSink c.args.self.now.source.symbol.now (source_form c.args.self.now.source)).output c.args.self.now c.resume.new.self (c.in-Some.ensures.same.0 ∙ c.steps.invariant.same.0, c.in-Some.ensures.same.1 ∙ c.steps.invariant.same.1, c.in-Some.ensures.same.2 ∙ c.steps.invariant.same.2) c.in_ok-continuation.ensures.stepped in
-    machine_less c.in-Some.ensures.some d
+    let d = steps_as (printing g.S.TextSink c.args.self.now.source.symbol.now (source_form c.args.self.now.source)).output c.args.self.now c.resume.new.self (c.in-Some.ensures.same.0 ∙ c.steps.invariant.same.0, c.in-Some.ensures.same.1 ∙ c.steps.invariant.same.1, c.in-Some.ensures.same.2 ∙ c.steps.invariant.same.2) c.in_ok-continuation.ensures.stepped in
+    steps_less c.in-Some.ensures.some d
 
 pub steps-preserved : goal.steps-preserved
 steps-preserved g c =
     let same : Same c.args.self.now c.resume.new.self = (c.in-Some.ensures.same.0 ∙ c.steps.invariant.same.0, c.in-Some.ensures.same.1 ∙ c.steps.invariant.same.1, c.in-Some.ensures.same.2 ∙ c.steps.invariant.same.2) in
-    let d = stepped_as (printing g.S.TextSink c.args.self.now.source.symbol.now (source_form c.args.self.now.source)).output c.args.self.now c.resume.new.self (c.in-Some.ensures.same.0 ∙ c.steps.invariant.same.0, c.in-Some.ensures.same.1 ∙ c.steps.invariant.same.1, c.in-Some.ensures.same.2 ∙ c.steps.invariant.same.2) c.in_ok-continuation.ensures.stepped in
+    let d = steps_as (printing g.S.TextSink c.args.self.now.source.symbol.now (source_form c.args.self.now.source)).output c.args.self.now c.resume.new.self (c.in-Some.ensures.same.0 ∙ c.steps.invariant.same.0, c.in-Some.ensures.same.1 ∙ c.steps.invariant.same.1, c.in-Some.ensures.same.2 ∙ c.steps.invariant.same.2) c.in_ok-continuation.ensures.stepped in
     record {
       ready = c.in_ok-continuation.ensures.ready refl;
-      valid = valid_steps (valid_resumes c.steps.invariant.valid c.in-Some.ensures.some) d;
-      ran = ran_machine c.steps.invariant.ran c.in-Some.ensures.some (rw c.in-Some.ensures.looks at d);
+      valid = steps_valid (valid_resumes c.steps.invariant.valid c.in-Some.ensures.some) d;
+      ran = steps_ran c.steps.invariant.ran c.in-Some.ensures.some (rw c.in-Some.ensures.looks at d);
       same = (c.in_ok-continuation.ensures.same.0 ∙ same.0, c.in_ok-continuation.ensures.same.1 ∙ same.1, c.in_ok-continuation.ensures.same.2 ∙ same.2);
       grows = omega (arith, c.steps.invariant.grows, c.in-Some.ensures.looks, c.in_ok-continuation.ensures.grows);
       least = omega (arith, c.steps.invariant.least, c.in-Some.ensures.looks, c.in_ok-continuation.ensures.least, first_resumes c.in-Some.ensures.some);

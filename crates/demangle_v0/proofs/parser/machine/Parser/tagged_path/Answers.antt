@@ -6,7 +6,7 @@ use Rattle.demangle_v0_tokens.specs.declared.tags.PathKind.TheVariants as kind
 use Rattle.demangle_v0.specs.declared.parser.Continuation.TheVariants as continuation
 use Rattle.demangle_v0.proofs.StepErrors.{stops_none}
 use Rattle.demangle_v0.proofs.Parsers.{advanced, advanced_rest}
-use Rattle.demangle_v0.proofs.PathSteps.{path_wrong, path_as}
+use Rattle.demangle_v0.proofs.PathSteps.{path_wrong, path_as, tag_of_nested}
 use Rattle.demangle_v0.proofs.BackrefSteps.{unit_path}
 use Rattle.demangle_v0.proofs.parser.machine.Parser.tagged_path.Goals as goal
 
@@ -35,14 +35,7 @@ returns-in-CrateRoot g c =
 
 pub returns-in-NestedName : goal.returns-in-NestedName
 returns-in-NestedName g c =
-    let d = advanced_rest g.V.Output c.args.output.now _ 6 1 9 c.nested_path.ensures.performs in
-    record {
-      performs = record {
-        does = path_as c.args.tag kind.NestedName (rw (c.in_ok-kind.ensures.ok_part, c.in-NestedName.is)
-            at c.path_kind.ensures) (omega arith) (omega arith) (omega arith) d.does;
-        same = d.same;
-      };
-    }
+    absurd (c.requires.not_nested (tag_of_nested c.args.tag (rw (c.in_ok-kind.ensures.ok_part, c.in-NestedName.is) at c.path_kind.ensures)))
 
 pub returns-in-Generic : goal.returns-in-Generic
 returns-in-Generic g c =

@@ -1,0 +1,40 @@
+use Rattle.std.proofs.Common.{◌≡◌, ◌+◌, ◌-◌, Ok, None, arith, refl, sym, ap, ◌∙◌}
+use Rattle.demangle_v0.specs.Parsers.{Performed}
+use Rattle.demangle_v0.specs.declared.parser.Continuation.TheVariants as continuation
+use Rattle.demangle_v0.specs.declared.parser.machine.Parser.{Parser}
+use Rattle.demangle_v0.proofs.NestedNames.{named, named_runs, named_stops, named_ends}
+use Rattle.demangle_v0.proofs.parser.machine.Parser.plain_names.Goals as goal
+
+pub returns-in-Err-clause-end : goal.returns-in-Err-clause-end
+returns-in-Err-clause-end g c p before x below =
+    let k = c.names.self in
+    let left = c.names.left - 1 in
+    let one : c.names.left ≡ left + 1 = omega arith in
+    named_stops g.V.Output c.args.self.now k c.nested_name.new.self c.push_names.new.self c.names.output c.nested_name.new.output c.args.outer left c.in-Err.stop p before c.names.invariant.source (below ∙ sym c.names.invariant.stack) c.nested_name.ensures.placed c.push_names.ensures
+    (rw c.in-Err.is at c.nested_name.ensures.performs) (rw one at (c.names.invariant.ran p before x))
+
+pub names-preserved : goal.names-preserved
+names-preserved g c =
+    let k = c.names.self in
+    let n = c.nested_name.new.self in
+    let left = c.names.left - 1 in
+    let one : c.names.left ≡ left + 1 = omega arith in
+    let placed = c.nested_name.ensures.placed in
+    let ends : c.nested_name.result ≡ Ok continuation.End = rw c.in_default.is (ap Ok (rw c.in_default.is at c.nested_name.ensures.ends)) in
+    let performs : Performed g.V.Output continuation.NestedName (named g.V.Output k c.args.outer left) c.names.output (Ok continuation.End) n c.nested_name.new.output = rw ends at c.nested_name.ensures.performs in
+    let no_text : n.state.pending_text ≡ None = ap (λ (z : Parser g.row.N). z.state.pending_text) placed ∙ c.names.invariant.no_pending_text in
+    record {
+      bound = omega (arith, c.names.invariant.bound);
+      source = ap (λ (z : Parser g.row.N). z.source) placed ∙ c.names.invariant.source;
+      stack = ap (λ (z : Parser g.row.N). z.stack) placed ∙ c.names.invariant.stack;
+      lifetimes = ap (λ (z : Parser g.row.N). z.state.lifetimes) placed ∙ c.names.invariant.lifetimes;
+      no_pending_text = no_text;
+      grows = omega (arith, c.names.invariant.grows, performs.does.grows);
+      ready = performs.does.ready c.names.invariant.ready refl;
+      ran = λ p before x. named_runs g.V.Output c.args.self.now k n c.names.output c.nested_name.new.output c.args.outer left p before c.names.invariant.source c.nested_name.ensures.placed no_text performs (rw one at (c.names.invariant.ran p before x));
+    }
+
+pub returns-clause-end : goal.returns-clause-end
+returns-clause-end g c p before x below =
+    let k = c.names.self in
+    named_ends g.V.Output c.args.self.now k c.names.output c.args.outer c.names.left p before c.names-test.false (below ∙ sym c.names.invariant.stack) c.names.invariant.no_pending_text (c.names.invariant.ran p before x)
