@@ -3,6 +3,7 @@ pub mod LineFeedLaws
 pub mod LineFeeds
 pub mod FilterLaws
 pub mod Groups
+pub mod Words
 pub mod ItemLineFeeds
 pub mod LineDivision
 pub mod LineLaws

@@ -1,5 +1,5 @@
 //! Finds the runs of a text. A run is a candidate symbol.
-ghost use Rattle.std.specs.Prelude.{◌≡◌, ◌∷◌, ℕ, List, ◌+◌, ◌<◌, ◌≤◌, true, false, length, drop, slice_index, IfSome, IfNone, IsTrue};
+ghost use Rattle.std.specs.Prelude.{◌≡◌, ◌∷◌, ℕ, List, ◌+◌, ◌<◌, ◌≤◌, ◌-◌, ◌==◌, true, false, length, take, drop, IfSome, IfNone};
 ghost use Rattle.std.specs.List.{prefix_len, list_all};
 ghost use Rattle.rustc_demangle.specs.Filtered.{is_run_byte, starts_run};
 
@@ -88,38 +88,80 @@ fn is_run_byte(byte: u8) -> bool
     (byte == b'$') | (byte == b'.') | (byte == b'_') | byte.is_ascii_alphanumeric()
 }
 
-/// Returns whether the group at `from` has only run bytes.
+/// Returns 0 for a run byte, and another number for any other byte.
+// Vector instructions have the minimum, and the subtraction that stops at 0. They have no comparison
+// of a byte with a range.
 #[inline(always)]
-fn is_group_of_run<const N: usize>(text: &[u8], from: usize) -> bool
-    requires { from + N ≤ length text.now }
-    ensures { IsTrue result → (k : ℕ) → from ≤ k → k < from + N →
-        is_run_byte (slice_index text.now k) ≡ true }
+fn run_byte_distance(byte: u8) -> u8
+    ensures { (result == 0) ≡ is_run_byte byte }
 {
-    // An array needs no bounds check in the loop, so the compiler vectorizes it.
-    let Some(group) = text[from..].first_chunk::<N>() else {
-        return false;
-    };
-    let mut all = true;
-    for k in 0..N {
-        all &= is_run_byte(group[k]);
+    // A letter differs from the other case in one bit, and a digit from `0` in the lowest four.
+    let letter = (byte | 0x20).wrapping_sub(b'a').saturating_sub(25);
+    let digit = (byte ^ b'0').saturating_sub(9);
+    if (byte == b'_') | (byte == b'.') | (byte == b'$') {
+        0
+    } else {
+        letter.min(digit)
     }
-    all
 }
 
-/// Returns the end of the complete groups after `from` that have only run bytes.
+/// Returns how many run bytes a group of 16 bytes begins with.
 #[inline(always)]
-fn groups_end<const N: usize>(text: &[u8], from: usize) -> usize
-    requires size { 0 < N }
-    requires within { from ≤ length text.now }
-    ensures forward { from ≤ result }
-    ensures within { result ≤ length text.now }
-    ensures all { (k : ℕ) → from ≤ k → k < result → is_run_byte (slice_index text.now k) ≡ true }
+fn run_bytes_of(group: &[u8; 16]) -> usize
+    ensures within { result ≤ 16 }
+    ensures value { result ≡ prefix_len is_run_byte group.now }
 {
-    let mut at = from;
-    while text.len() - at >= N && is_group_of_run::<N>(text, at) {
-        at += N;
+    // The compiler vectorizes the loop. The distance of the first byte is the lowest byte of the
+    // word, so trailing zeros stand for run bytes.
+    let mut distances = [0; 16];
+    for k in 0..16 {
+        distances[k] = run_byte_distance(group[k]);
     }
-    at
+    let word = u128::from_le_bytes(distances);
+    if word == 0 {
+        16
+    } else {
+        (word.trailing_zeros() / 8) as usize
+    }
+}
+
+/// Returns the length of the run at the start of a text of at least 16 bytes, given its last group.
+#[inline(always)]
+fn run_len_by_groups(text: &[u8], last: &[u8; 16]) -> usize
+    requires long { 16 ≤ length text.now }
+    requires last { last.now ≡ drop (length text.now - 16) text.now }
+    ensures { result ≡ prefix_len is_run_byte text.now }
+{
+    let mut at = 0;
+    while let Some(group) = text[at..].first_chunk::<16>() {
+        let count = run_bytes_of(group);
+        if count < 16 {
+            return at + count;
+        }
+        at += 16;
+    }
+    // Fewer than 16 bytes remain, so the last group begins among the run bytes before them.
+    text.len() - 16 + run_bytes_of(last)
+}
+
+/// Returns the length of the run at the start of a text of 8 to 16 bytes, given its ends.
+#[inline(always)]
+fn run_len_by_ends(text: &[u8], first: &[u8; 8], last: &[u8; 8]) -> usize
+    requires size { (8 ≤ length text.now) × (length text.now ≤ 16) }
+    requires first { first.now ≡ take 8 text.now }
+    requires last { last.now ≡ drop (length text.now - 8) text.now }
+    ensures { result ≡ prefix_len is_run_byte text.now }
+{
+    // Both ends are one group, in which the bytes between them may be twice.
+    let mut group = [0; 16];
+    group[..8].copy_from_slice(first);
+    group[8..].copy_from_slice(last);
+    let count = run_bytes_of(&group);
+    if count < 8 {
+        count
+    } else {
+        text.len() - 8 + (count - 8)
+    }
 }
 
 /// Returns the length of the run at the start of the text. It ends before the first byte that is
@@ -127,9 +169,13 @@ fn groups_end<const N: usize>(text: &[u8], from: usize) -> usize
 pub fn run_len(text: &[u8]) -> usize
     ensures { result ≡ prefix_len is_run_byte text.now }
 {
-    // The compiler vectorizes groups of these sizes, so at most seven bytes of a run remain.
-    let mut at = groups_end::<16>(text, 0);
-    at = groups_end::<8>(text, at);
+    if let Some(last) = text.last_chunk::<16>() {
+        return run_len_by_groups(text, last);
+    }
+    if let (Some(first), Some(last)) = (text.first_chunk::<8>(), text.last_chunk::<8>()) {
+        return run_len_by_ends(text, first, last);
+    }
+    let mut at = 0;
     while at < text.len() && is_run_byte(text[at]) {
         at += 1;
     }

@@ -65,36 +65,78 @@ fn is_run_byte(byte: u8) -> bool {
     (byte == b'$') | (byte == b'.') | (byte == b'_') | byte.is_ascii_alphanumeric()
 }
 
-/// Returns whether the group at `from` has only run bytes.
+/// Returns 0 for a run byte, and another number for any other byte.
+// Vector instructions have the minimum, and the subtraction that stops at 0. They have no comparison
+// of a byte with a range.
 #[inline(always)]
-fn is_group_of_run<const N: usize>(text: &[u8], from: usize) -> bool {
-    // An array needs no bounds check in the loop, so the compiler vectorizes it.
-    let Some(group) = text[from..].first_chunk::<N>() else {
-        return false;
-    };
-    let mut all = true;
-    for k in 0..N {
-        all &= is_run_byte(group[k]);
+fn run_byte_distance(byte: u8) -> u8 {
+    // A letter differs from the other case in one bit, and a digit from `0` in the lowest four.
+    let letter = (byte | 0x20).wrapping_sub(b'a').saturating_sub(25);
+    let digit = (byte ^ b'0').saturating_sub(9);
+    if (byte == b'_') | (byte == b'.') | (byte == b'$') {
+        0
+    } else {
+        letter.min(digit)
     }
-    all
 }
 
-/// Returns the end of the complete groups after `from` that have only run bytes.
+/// Returns how many run bytes a group of 16 bytes begins with.
 #[inline(always)]
-fn groups_end<const N: usize>(text: &[u8], from: usize) -> usize {
-    let mut at = from;
-    while text.len() - at >= N && is_group_of_run::<N>(text, at) {
-        at += N;
+fn run_bytes_of(group: &[u8; 16]) -> usize {
+    // The compiler vectorizes the loop. The distance of the first byte is the lowest byte of the
+    // word, so trailing zeros stand for run bytes.
+    let mut distances = [0; 16];
+    for k in 0..16 {
+        distances[k] = run_byte_distance(group[k]);
     }
-    at
+    let word = u128::from_le_bytes(distances);
+    if word == 0 {
+        16
+    } else {
+        (word.trailing_zeros() / 8) as usize
+    }
+}
+
+/// Returns the length of the run at the start of a text of at least 16 bytes, given its last group.
+#[inline(always)]
+fn run_len_by_groups(text: &[u8], last: &[u8; 16]) -> usize {
+    let mut at = 0;
+    while let Some(group) = text[at..].first_chunk::<16>() {
+        let count = run_bytes_of(group);
+        if count < 16 {
+            return at + count;
+        }
+        at += 16;
+    }
+    // Fewer than 16 bytes remain, so the last group begins among the run bytes before them.
+    text.len() - 16 + run_bytes_of(last)
+}
+
+/// Returns the length of the run at the start of a text of 8 to 16 bytes, given its ends.
+#[inline(always)]
+fn run_len_by_ends(text: &[u8], first: &[u8; 8], last: &[u8; 8]) -> usize {
+    // Both ends are one group, in which the bytes between them may be twice.
+    let mut group = [0; 16];
+    group[..8].copy_from_slice(first);
+    group[8..].copy_from_slice(last);
+    let count = run_bytes_of(&group);
+    if count < 8 {
+        count
+    } else {
+        text.len() - 8 + (count - 8)
+    }
 }
 
 /// Returns the length of the run at the start of the text. It ends before the first byte that is
 /// not an ASCII letter, a digit, `$`, `.` or `_`.
 pub fn run_len(text: &[u8]) -> usize {
-    // The compiler vectorizes groups of these sizes, so at most seven bytes of a run remain.
-    let mut at = groups_end::<16>(text, 0);
-    at = groups_end::<8>(text, at);
+    if let Some(last) = text.last_chunk::<16>() {
+        return run_len_by_groups(text, last);
+    }
+    if let (Some(first), Some(last)) = (text.first_chunk::<8>(), text.last_chunk::<8>()) {
+        return run_len_by_ends(text, first, last);
+    }
+    let mut at = 0;
     while at < text.len() && is_run_byte(text[at]) {
         at += 1;
     }
