@@ -8,7 +8,7 @@ use Rattle.std.proofs.lemmas.Option.{get_or_from_slice_get, slice_get-get_or}
 use Rattle.std.proofs.lemmas.Bool.Decides.{nat_tests}
 use Rattle.demangle_symbol.specs.Digits.{number, is_byte}
 use Rattle.demangle_legacy.specs.Unescaped.{is_dollar, is_special, is_lower_hex, lower_hex, escape_of_code, escape_of_digits, escape_of, leading_unit, pieces_from, unescaped, is_hash}
-use Rattle.demangle_symbol.proofs.Digits.{is_byte_there, number_part, number_more, number_none}
+use Rattle.demangle_symbol.proofs.Digits.{is_byte_there, number_part, number_more}
 use Rattle.demangle_symbol.proofs.Ranges.{is_byte_not, range_first, range_past, range_length, range_drop, range_take, all_more, all_fails, all_past}
 
 -- the hash
@@ -74,8 +74,6 @@ digits_done s from to at code lt within e n all =
     digits_all s from to lt within (all ∙ all_past is_lower_hex s at to (omega arith))
     ∙ ap escape_of_code (ap (λ k. number 16 lower_hex (slice_range s from k)) (sym e) ∙ sym n)
 
-pub ruleset digit_steps = (digits_none, digits_other, all_more, all_fails, all_past, number_none, number_more)
-
 -- a name between `$`
 
 pub name_none : (s : List ℕ) (from to : ℕ) → to ≤ from → escape_of (slice_range s from to) ≡ None
@@ -130,8 +128,6 @@ name_many s from to c many within here other =
     ∙ ap (λ t. c ∷ t) (range_first s (from + 1) to d (omega arith) at_d
     ∙ ap (λ t. d ∷ t) (range_first s (from + 1 + 1) to e (omega arith) at_e)))
     ∙ many_letters c d e (slice_range s (from + 1 + 1 + 1) to) other
-
-pub ruleset name_steps = (name_none, name_digits, name_comma, name_other, name_two, name_many)
 
 -- a unit at its place
 

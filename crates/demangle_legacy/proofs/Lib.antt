@@ -1,4 +1,5 @@
 pub mod LegacyElements
+pub mod LegacyEscapes
 pub mod LegacyLaws
 pub mod LegacyPrefix
 pub mod LegacyPrinting

@@ -1,6 +1,6 @@
 //! Reads the units of a legacy element.
-ghost use Rattle.std.specs.Prelude.{◌≡◌, ◌≢◌, ◌+◌, ◌-◌, ◌*◌, ◌<◌, ◌≤◌, [], ◌∷◌, IfSome, MatchOption, true, false, length, slice_index, slice_range, option_map, position, encode_utf8};
-ghost use Rattle.demangle_legacy.specs.Unescaped.{escape_of, escape_of_code, escape_of_digits, is_dollar, is_lower_hex, is_special, lower_hex, leading_unit};
+ghost use Rattle.std.specs.Prelude.{◌≡◌, ◌≢◌, ◌+◌, ◌-◌, ◌*◌, ◌<◌, ◌≤◌, [], ◌∷◌, IfSome, MatchOption, true, false, length, slice_index, slice_range, slice_get, option_map, position, Some, encode_utf8};
+ghost use Rattle.demangle_legacy.specs.Unescaped.{escape_of, escape_of_code, is_lower_hex, is_special, lower_hex, leading_unit};
 ghost use Rattle.demangle_legacy.specs.Units.{text_of_unit};
 
 use demangle_symbol::cursor::{Looks, Part, Symbol};
@@ -15,28 +15,6 @@ pub(super) enum Unit {
     Run,
 }
 
-/// Returns the place of the first `$` of a part.
-#[tactic(auto, using(demangle_symbol::proofs::Ranges::place_steps))]
-fn dollar_in(symbol: &Symbol<'_>, part: Part, looks: &mut Looks) -> Option<usize>
-    requires { part.to ≤ length symbol.now }
-    ensures first { option_map (λ at. at - part.from) result
-        ≡ position is_dollar (slice_range symbol.now part.from part.to) }
-    ensures within { IfSome result (λ at. (part.from ≤ at) × (at < part.to)) }
-    ensures grows { looks.old ≤ looks.new }
-    ensures most { looks.new ≤ looks.old + (part.to - part.from) }
-    ensures some_looks { IfSome result (λ at. looks.new ≤ looks.old + (at + 1 - part.from)) }
-{
-    for at in part.from..part.to {
-        let Some(byte) = symbol.byte(at, looks) else {
-            return None;
-        };
-        if byte == b'$' {
-            return Some(at);
-        }
-    }
-    None
-}
-
 /// Returns the place of the first `$` or `.` of a part.
 #[tactic(auto, using(demangle_symbol::proofs::Ranges::place_steps))]
 fn special_in(symbol: &Symbol<'_>, part: Part, looks: &mut Looks) -> Option<usize>
@@ -48,11 +26,14 @@ fn special_in(symbol: &Symbol<'_>, part: Part, looks: &mut Looks) -> Option<usiz
     ensures most { looks.new ≤ looks.old + (part.to - part.from) }
     ensures some_looks { IfSome result (λ at. looks.new ≤ looks.old + (at + 1 - part.from)) }
 {
-    for at in part.from..part.to {
+    // The part is within the symbol. The compiler knows it by the minimum, and tests one bound.
+    let end = part.to.min(symbol.len());
+    for at in part.from..end {
         let Some(byte) = symbol.byte(at, looks) else {
             return None;
         };
-        if byte == b'$' || byte == b'.' {
+        // The bytes of names are all past these two.
+        if byte <= b'.' && (byte == b'$' || byte == b'.') {
             return Some(at);
         }
     }
@@ -82,28 +63,37 @@ fn escaped_code(code: u32) -> Option<char>
     }
 }
 
-/// Returns the character that `u` and these digits escape.
-#[tactic(auto, using(crate::proofs::LegacyUnits::digit_steps))]
-fn escaped_char(symbol: &Symbol<'_>, digits: Part, looks: &mut Looks) -> Option<char>
-    requires { digits.to ≤ length symbol.now }
-    ensures escape { option_map encode_utf8 result
-        ≡ escape_of_digits (slice_range symbol.now digits.from digits.to) }
+/// Returns the character of an escape by digits, and the place of the `$` that ends it. Returns
+/// `None` if there is no such escape. The part starts with the `u` before the digits.
+fn digits_escape(symbol: &Symbol<'_>, part: Part, looks: &mut Looks) -> Option<(char, usize)>
+    requires order { part.from < part.to }
+    requires inside { part.to ≤ length symbol.now }
+    requires letter { slice_get symbol.now part.from ≡ Some 117 }
+    ensures unit { option_map (λ r. (encode_utf8 r.0, r.1 - part.from + 1)) result
+        ≡ leading_unit 36 (slice_range symbol.now part.from part.to) }
+    ensures within { IfSome result (λ r. (part.from ≤ r.1) × (r.1 < part.to)) }
     ensures grows { looks.old ≤ looks.new }
-    ensures most { looks.new ≤ looks.old + (digits.to - digits.from) }
+    ensures most { looks.new ≤ looks.old + (part.to - part.from) }
+    ensures some_looks { IfSome result (λ r. looks.new ≤ looks.old + (r.1 - part.from)) }
 {
-    if digits.to <= digits.from {
-        return None;
-    }
     let mut code: u32 = 0;
-    for at in digits.from..digits.to {
-        let digit = lower_hex_of(symbol.byte(at, looks)?)?;
+    for at in part.from + 1..part.to {
+        let byte = symbol.byte(at, looks)?;
+        let Some(digit) = lower_hex_of(byte) else {
+            if byte != b'$' {
+                return None;
+            }
+            // With no digit the code is 0, a control character, which may not be escaped.
+            let c = escaped_code(code)?;
+            return Some((c, at));
+        };
         code = code * 16 + u32::from(digit);
         // The test at each digit prevents an overflow for any number of digits.
         if code > 0x10_ffff {
             return None;
         }
     }
-    escaped_code(code)
+    None
 }
 
 /// Returns the character for two letters between `$`, or `None` if they are not an escape. The
@@ -125,33 +115,45 @@ fn letters(first: u8, second: u8) -> Option<char>
     }
 }
 
-/// Returns the character for a name between `$`, if it is an escape.
-#[tactic(auto, using(crate::proofs::LegacyUnits::name_steps))]
-fn escape_in(symbol: &Symbol<'_>, name: Part, looks: &mut Looks) -> Option<char>
-    requires { name.to ≤ length symbol.now }
-    ensures escape { option_map encode_utf8 result
-        ≡ escape_of (slice_range symbol.now name.from name.to) }
+/// Returns the character of the escape at the start of a part, and the place of the `$` that ends
+/// it. Returns `None` if there is no escape. The part is after a `$`.
+// An escape is read in one pass, up to the first byte that no escape has there.
+#[inline(always)]
+fn escape_at(symbol: &Symbol<'_>, part: Part, looks: &mut Looks) -> Option<(char, usize)>
+    requires { part.to ≤ length symbol.now }
+    ensures unit { option_map (λ r. (encode_utf8 r.0, r.1 - part.from + 1)) result
+        ≡ leading_unit 36 (slice_range symbol.now part.from part.to) }
+    ensures within { IfSome result (λ r. (part.from ≤ r.1) × (r.1 < part.to)) }
     ensures grows { looks.old ≤ looks.new }
-    ensures most { looks.new ≤ looks.old + (name.to - name.from) }
+    ensures most { looks.new ≤ looks.old + 2 * (part.to - part.from) }
+    ensures some_looks { IfSome result (λ r. looks.new ≤ looks.old + 2 * (r.1 - part.from) + 1) }
 {
-    if name.to <= name.from {
+    let from = part.from;
+    if part.to <= from {
         return None;
     }
-    let next = name.from + 1;
-    let first = symbol.byte(name.from, looks)?;
+    let first = symbol.byte(from, looks)?;
     if first == b'u' {
-        let digits = Part {
-            from: next,
-            to: name.to,
-        };
-        return escaped_char(symbol, digits, looks);
+        return digits_escape(symbol, part, looks);
     }
-    match name.to - next {
-        0 if first == b'C' => Some(','),
-        0 => None,
-        1 => letters(first, symbol.byte(next, looks)?),
-        _ => None,
+    if part.to - from < 2 {
+        return None;
     }
+    let second = symbol.byte(from + 1, looks)?;
+    if second == b'$' {
+        if first == b'C' {
+            return Some((',', from + 1));
+        }
+        return None;
+    }
+    if part.to - from < 3 {
+        return None;
+    }
+    if !symbol.is_at(b'$', from + 2, looks) {
+        return None;
+    }
+    let c = letters(first, second)?;
+    Some((c, from + 2))
 }
 
 /// Returns the unit at a place of an element that ends at `to`, and the place after the unit.
@@ -187,12 +189,7 @@ pub(super) fn unit_at(
             }
         }
         b'$' => {
-            let end = dollar_in(symbol, rest, looks)?;
-            let name = Part {
-                from: next,
-                to: end,
-            };
-            let c = escape_in(symbol, name, looks)?;
+            let (c, end) = escape_at(symbol, rest, looks)?;
             Some((Unit::Char(c), end + 1))
         }
         _ => Some((Unit::Run, special_in(symbol, rest, looks)?)),

@@ -49,6 +49,26 @@ stripped_uncut [] h = refl
 stripped_uncut (c ∷ s) h =
     uncut_here c s (starts_with nat_eq (c ∷ s) (codes ".llvm.")) (list_all is_thin_lto (drop 5 s)) refl refl h (stripped_uncut s (λ i rest e t. h (suc i) rest e t))
 
+-- no `.llvm.` is before the last bytes that may follow one
+pub stripped_thin_end : (s : List ℕ) (from : ℕ) → from ≤ length s → ((k : ℕ) → from ≤ k → k < length s → is_thin_lto (get_or s k 0) ≡ true) → (0 < from → is_thin_lto (get_or s (from - 1) 0) ≡ false)
+    → (6 ≤ from → starts_with nat_eq (drop (from - 6) s) (codes ".llvm.") ≡ false) → s ≡ stripped s
+stripped_thin_end s from within after before other = stripped_uncut s (λ i rest e thin.
+    let size : length s - i ≡ 6 + length rest = omega (arith, length-drop i s, ap length e) in
+    let dot : get_or s (i + 5) 0 ≡ 46 = sym (get_or-drop i s 5 0) ∙ ap (λ t. get_or t 5 0) e in
+    elim (cases_lt (i + 5) from) [
+      | inr early ↦ true≢false (sym (after (i + 5) early (omega (arith, size))) ∙ ap is_thin_lto dot)
+      | inl late ↦ elim (cases_lt (i + 6) from) [
+        | inr same ↦
+            let at : drop (from - 6) s ≡ ending rest = ap (λ k. drop k s) (omega (arith, late, same)) ∙ e in
+            true≢false (sym (begins_ending (drop (from - 6) s) rest at) ∙ other (omega (arith, late)))
+        | inl later ↦
+            let k = from - (i + 7) in
+            let there : get_or rest k 0 ≡ get_or s (from - 1) 0 =
+            ap (λ t. get_or (drop 6 t) k 0) (sym e) ∙ get_or-drop 6 (drop i s) k 0 ∙ get_or-drop i s (6 + k) 0 ∙ ap (λ j. get_or s j 0) (omega (arith, later)) in
+            true≢false (sym thin ∙ list_all_at is_thin_lto rest k 0 (omega (arith, later, size, within)) (ap is_thin_lto there ∙ before (omega (arith, later))))
+      ]
+    ])
+
 -- the last `.` is not the end of a `.llvm.`
 pub stripped_undotted_end : (s : List ℕ) (dot : ℕ) → dot < length s → get_or s dot 0 ≡ 46 → Nowhere (Passes (is_byte 46) s) (dot + 1) (length s)
     → (5 ≤ dot → starts_with nat_eq (drop (dot - 5) s) (codes ".llvm.") ≡ false) → s ≡ stripped s

@@ -3,11 +3,42 @@
 
 use crate::demangle_symbol::cursor::{Looks, Part, Symbol};
 
+/// Returns the value of the decimal digit at a place, or `None` if another byte or the end is
+/// there.
+#[inline(always)]
+fn digit_at(symbol: &Symbol<'_>, place: usize, looks: &mut Looks) -> Option<u8> {
+    match symbol.byte(place, looks) {
+        Some(byte @ b'0'..=b'9') => Some(byte - b'0'),
+        _ => None,
+    }
+}
+
+/// Returns the length that is spelled at a place, and the place after its digits. Returns `None` if
+/// there is no length, or if a `usize` cannot hold it.
+// Almost all lengths have at most three digits. They are read without a loop, and cannot overflow.
+#[inline(always)]
+fn length_at(symbol: &Symbol<'_>, at: usize, looks: &mut Looks) -> Option<(usize, usize)> {
+    let Some(first) = digit_at(symbol, at, looks) else {
+        return None;
+    };
+    let Some(second) = digit_at(symbol, at + 1, looks) else {
+        return Some((usize::from(first), at + 1));
+    };
+    let Some(third) = digit_at(symbol, at + 2, looks) else {
+        return Some((usize::from(first) * 10 + usize::from(second), at + 2));
+    };
+    let Some(_fourth) = digit_at(symbol, at + 3, looks) else {
+        let two = usize::from(first) * 10 + usize::from(second);
+        return Some((two * 10 + usize::from(third), at + 3));
+    };
+    symbol.decimal(at, looks).ok()
+}
+
 /// Returns the element whose length is spelled at a place. Returns `None` if there is no length, or
 /// if the element would end after the symbol.
 pub(super) fn element_at(symbol: &Symbol<'_>, at: usize, looks: &mut Looks) -> Option<Part> {
     let end = symbol.len();
-    let Ok((len, from)) = symbol.decimal(at, looks) else {
+    let Some((len, from)) = length_at(symbol, at, looks) else {
         return None;
     };
     if len > end - from {

@@ -13,26 +13,16 @@ pub(super) enum Unit {
     Run,
 }
 
-/// Returns the place of the first `$` of a part.
-fn dollar_in(symbol: &Symbol<'_>, part: Part, looks: &mut Looks) -> Option<usize> {
-    for at in part.from..part.to {
-        let Some(byte) = symbol.byte(at, looks) else {
-            return None;
-        };
-        if byte == b'$' {
-            return Some(at);
-        }
-    }
-    None
-}
-
 /// Returns the place of the first `$` or `.` of a part.
 fn special_in(symbol: &Symbol<'_>, part: Part, looks: &mut Looks) -> Option<usize> {
-    for at in part.from..part.to {
+    // The part is within the symbol. The compiler knows it by the minimum, and tests one bound.
+    let end = part.to.min(symbol.len());
+    for at in part.from..end {
         let Some(byte) = symbol.byte(at, looks) else {
             return None;
         };
-        if byte == b'$' || byte == b'.' {
+        // The bytes of names are all past these two.
+        if byte <= b'.' && (byte == b'$' || byte == b'.') {
             return Some(at);
         }
     }
@@ -57,21 +47,27 @@ fn escaped_code(code: u32) -> Option<char> {
     }
 }
 
-/// Returns the character that `u` and these digits escape.
-fn escaped_char(symbol: &Symbol<'_>, digits: Part, looks: &mut Looks) -> Option<char> {
-    if digits.to <= digits.from {
-        return None;
-    }
+/// Returns the character of an escape by digits, and the place of the `$` that ends it. Returns
+/// `None` if there is no such escape. The part starts with the `u` before the digits.
+fn digits_escape(symbol: &Symbol<'_>, part: Part, looks: &mut Looks) -> Option<(char, usize)> {
     let mut code: u32 = 0;
-    for at in digits.from..digits.to {
-        let digit = lower_hex_of(symbol.byte(at, looks)?)?;
+    for at in part.from + 1..part.to {
+        let byte = symbol.byte(at, looks)?;
+        let Some(digit) = lower_hex_of(byte) else {
+            if byte != b'$' {
+                return None;
+            }
+            // With no digit the code is 0, a control character, which may not be escaped.
+            let c = escaped_code(code)?;
+            return Some((c, at));
+        };
         code = code * 16 + u32::from(digit);
         // The test at each digit prevents an overflow for any number of digits.
         if code > 0x10_ffff {
             return None;
         }
     }
-    escaped_code(code)
+    None
 }
 
 /// Returns the character for two letters between `$`, or `None` if they are not an escape. The
@@ -89,26 +85,37 @@ fn letters(first: u8, second: u8) -> Option<char> {
     }
 }
 
-/// Returns the character for a name between `$`, if it is an escape.
-fn escape_in(symbol: &Symbol<'_>, name: Part, looks: &mut Looks) -> Option<char> {
-    if name.to <= name.from {
+/// Returns the character of the escape at the start of a part, and the place of the `$` that ends
+/// it. Returns `None` if there is no escape. The part is after a `$`.
+// An escape is read in one pass, up to the first byte that no escape has there.
+#[inline(always)]
+fn escape_at(symbol: &Symbol<'_>, part: Part, looks: &mut Looks) -> Option<(char, usize)> {
+    let from = part.from;
+    if part.to <= from {
         return None;
     }
-    let next = name.from + 1;
-    let first = symbol.byte(name.from, looks)?;
+    let first = symbol.byte(from, looks)?;
     if first == b'u' {
-        let digits = Part {
-            from: next,
-            to: name.to,
-        };
-        return escaped_char(symbol, digits, looks);
+        return digits_escape(symbol, part, looks);
     }
-    match name.to - next {
-        0 if first == b'C' => Some(','),
-        0 => None,
-        1 => letters(first, symbol.byte(next, looks)?),
-        _ => None,
+    if part.to - from < 2 {
+        return None;
     }
+    let second = symbol.byte(from + 1, looks)?;
+    if second == b'$' {
+        if first == b'C' {
+            return Some((',', from + 1));
+        }
+        return None;
+    }
+    if part.to - from < 3 {
+        return None;
+    }
+    if !symbol.is_at(b'$', from + 2, looks) {
+        return None;
+    }
+    let c = letters(first, second)?;
+    Some((c, from + 2))
 }
 
 /// Returns the unit at a place of an element that ends at `to`, and the place after the unit.
@@ -132,12 +139,7 @@ pub(super) fn unit_at(
             }
         }
         b'$' => {
-            let end = dollar_in(symbol, rest, looks)?;
-            let name = Part {
-                from: next,
-                to: end,
-            };
-            let c = escape_in(symbol, name, looks)?;
+            let (c, end) = escape_at(symbol, rest, looks)?;
             Some((Unit::Char(c), end + 1))
         }
         _ => Some((Unit::Run, special_in(symbol, rest, looks)?)),

@@ -3,6 +3,16 @@
 
 use crate::support::memchr::memrchr;
 
+/// The most bytes at the end of a text that are read one by one.
+const MAX_TAIL: usize = 16;
+
+/// Returns whether this byte may follow `.llvm.`.
+#[inline(always)]
+fn is_thin_lto_byte(byte: u8) -> bool {
+    // `@` is directly before `A`.
+    matches!(byte, b'@'..=b'F' | b'0'..=b'9')
+}
+
 /// Returns whether this text may follow `.llvm.`.
 fn is_thin_lto(ending: &str) -> bool {
     ending
@@ -10,11 +20,28 @@ fn is_thin_lto(ending: &str) -> bool {
         .all(|b| matches!(b, b'A'..=b'F' | b'0'..=b'9' | b'@'))
 }
 
-/// Returns whether a text may have a ThinLTO suffix: whether its last `.` ends a `.llvm.`.
+/// Returns the place from which on only bytes follow that may follow `.llvm.`. Returns `None` if it
+/// is not among the last bytes.
+fn thin_lto_from(bytes: &[u8]) -> Option<usize> {
+    let end = bytes.len().saturating_sub(MAX_TAIL);
+    let mut from = bytes.len();
+    while from > end {
+        if !is_thin_lto_byte(bytes[from - 1]) {
+            return Some(from);
+        }
+        from -= 1;
+    }
+    None
+}
+
+/// Returns whether a text may have a ThinLTO suffix: whether a `.llvm.` is before the last bytes
+/// that may follow one.
 fn may_be_thin_lto(text: &str) -> bool {
     let bytes = text.as_bytes();
-    // The characters after `.llvm.` contain no `.`. Most symbols have no `.` at all, or one near
-    // their end.
+    // Most texts have few such bytes at their end, so that this reads less than a search for a `.`.
+    if let Some(from) = thin_lto_from(bytes) {
+        return from >= 6 && bytes[from - 6..].starts_with(b".llvm.");
+    }
     let Some(dot) = memrchr(b'.', bytes) else {
         return false;
     };

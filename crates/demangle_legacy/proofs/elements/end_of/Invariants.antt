@@ -7,7 +7,7 @@ invariant-loop-element l = record {
   inside : l.at ≤ length l.symbol;
   same : (parts_of l.symbol).1 ≡ (parts_of (drop l.at l.symbol)).1;
   grows : l.initial.looks ≤ l.looks;
-  looked : l.looks ≤ l.initial.looks + 2 * l.at;
+  looked : l.looks ≤ l.initial.looks + 6 * l.at;
 }
 
 abbrev pub decreases-loop-element : goal.decreases-loop-element

@@ -1,20 +1,13 @@
 use Rattle.std.proofs.Common.{◌+◌, ◌-◌, Some, None, sym, ◌∙◌, arith, refl}
 use Rattle.std.specs.Prelude.{codes}
-use Rattle.demangle_legacy.proofs.LegacyUnits.{unit_there, unit_dots, unit_dot, unit_last_dot, unit_escape, unit_open, unit_run, unit_no_run, one_byte, a_full_stop}
+use Rattle.demangle_legacy.proofs.LegacyUnits.{unit_there, unit_dots, unit_dot, unit_last_dot, unit_run, unit_no_run, one_byte, a_full_stop}
 use Rattle.demangle_legacy.proofs.units.unit_at.Goals as goal
 use Rattle.demangle_legacy.proofs.units.unit_at.Goals.{else-next-to-via-then-next-to+else-is_at, else-next-to-via-else-next-to}
-
-pub returns-in_err-end-in-36-clause-unit : goal.returns-in_err-end-in-36-clause-unit
-returns-in_err-end-in-36-clause-unit c =
-    rw c.from_residual-in_err-end-in-36.ensures
-    (unit_there c.args.symbol.now c.args.at c.in_ok-byte.field-0 36 _ None (sym c.in_ok-byte.ensures.byte) c.in-36.is
-    (unit_open c.args.symbol.now (c.args.at + 1) c.args.to c.in_err-end-in-36.ensures.first))
 
 pub returns-in_err-c-in-36-clause-unit : goal.returns-in_err-c-in-36-clause-unit
 returns-in_err-c-in-36-clause-unit c =
     rw c.from_residual-in_err-c-in-36.ensures
-    (unit_there c.args.symbol.now c.args.at c.in_ok-byte.field-0 36 _ None (sym c.in_ok-byte.ensures.byte) c.in-36.is
-    (unit_escape c.args.symbol.now (c.args.at + 1) c.in_ok-end-in-36.end c.args.to None (c.in_ok-end-in-36.ensures.within.0) (c.in_ok-end-in-36.ensures.within.1) c.in_ok-end-in-36.ensures.first c.in_err-c-in-36.ensures.escape))
+    (unit_there c.args.symbol.now c.args.at c.in_ok-byte.field-0 36 _ None (sym c.in_ok-byte.ensures.byte) c.in-36.is (sym c.in_err-c-in-36.ensures.unit))
 
 pub returns-in_err-special_in-in_default-clause-unit : goal.returns-in_err-special_in-in_default-clause-unit
 returns-in_err-special_in-in_default-clause-unit c =
@@ -39,9 +32,8 @@ returns-else-next-to-clause-unit c =
 
 pub returns-in_ok-c-in-36-clause-unit : goal.returns-in_ok-c-in-36-clause-unit
 returns-in_ok-c-in-36-clause-unit c =
-    one_byte (c.in_ok-end-in-36.end - (c.args.at + 1) + 1) (c.in_ok-end-in-36.end + 1 - (c.args.at + 1)) _ (omega (arith, c.in_ok-end-in-36.ensures.within))
-    ∙ unit_there c.args.symbol.now c.args.at c.in_ok-byte.field-0 36 _ _ (sym c.in_ok-byte.ensures.byte) c.in-36.is
-    (unit_escape c.args.symbol.now (c.args.at + 1) c.in_ok-end-in-36.end c.args.to _ (c.in_ok-end-in-36.ensures.within.0) (c.in_ok-end-in-36.ensures.within.1) c.in_ok-end-in-36.ensures.first c.in_ok-c-in-36.ensures.escape)
+    one_byte (c.in_ok-c-in-36.end - (c.args.at + 1) + 1) (c.in_ok-c-in-36.end + 1 - (c.args.at + 1)) _ (omega (arith, c.in_ok-c-in-36.ensures.within))
+    ∙ unit_there c.args.symbol.now c.args.at c.in_ok-byte.field-0 36 _ _ (sym c.in_ok-byte.ensures.byte) c.in-36.is (sym c.in_ok-c-in-36.ensures.unit)
 
 pub returns-in_ok-special_in-in_default-clause-unit : goal.returns-in_ok-special_in-in_default-clause-unit
 returns-in_ok-special_in-in_default-clause-unit c =
