@@ -5,6 +5,7 @@ pub mod Escaping
 pub mod Hex
 pub mod Idents
 pub mod Inserting
+pub mod IntegerEnds
 pub mod Integers
 pub mod NameLaws
 pub mod NamePieces

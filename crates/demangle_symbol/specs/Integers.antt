@@ -17,6 +17,12 @@ pub record Digits62UpTo (s : List ℕ) (i k n : ℕ) : Type 0 where
   pub run : run_end is_digit_62 s i ≡ run_end is_digit_62 s k
   pub value : n ≡ number 62 digit_62 (slice_range s i k)
 
+-- The same digits spell a number below m.
+pub record DigitsBelow (s : List ℕ) (i k m : ℕ) : Type 0 where
+  pub n : ℕ
+  pub digits : Digits62UpTo s i k n
+  pub small : n < m
+
 -- the integer at i plus one, as after a tag
 abbrev pub one_more_at : List ℕ → ℕ → Read ℕ
 one_more_at s i = then_if_some (integer_at s i) (λ r. only_if (nat_lt (r.0 + 1) (2 ^ 64)) (r.0 + 1, r.1))

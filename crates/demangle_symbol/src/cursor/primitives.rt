@@ -1,5 +1,5 @@
 //! Reads the primitives of a v0 symbol that are numbers, letters and back references.
-ghost use Rattle.std.specs.Prelude.{◌≡◌, ℕ, ◌+◌, ◌-◌, ◌*◌, ◌<◌, ◌≤◌, ◌^◌, length, true, false, Some, slice_get, IfOk, OnErr, IfErr, IfSome, IfNone, MatchOption};
+ghost use Rattle.std.specs.Prelude.{◌≡◌, ℕ, ◌+◌, ◌-◌, ◌*◌, ◌<◌, ◌≤◌, ◌^◌, length, drop, true, false, Some, None, slice_get, IfOk, OnErr, IfErr, IfSome, IfNone, MatchOption, option_map};
 ghost use Rattle.std.specs.Result.{result_ok};
 ghost use Rattle.demangle_symbol.specs.Primitives.{byte_at, integer_at, optional_at, namespace_at, backref_at, Integer, OptInteger, Namespace, Backref, after_byte, is_digit_62, digit_62};
 ghost use Rattle.demangle_symbol.specs.Digits.{run_end};
@@ -13,6 +13,9 @@ pub const MAX_DEPTH: u32 = 500;
 
 /// The number of digits that are read without an overflow check. 62^10 is below 2^60.
 const UNCHECKED_DIGITS: usize = 10;
+
+/// An integer of eleven digits fits if its first digit is smaller. 21 * 62^10 is below 2^64 - 2.
+const FITTING_FIRST: u64 = 21;
 
 impl<'s> Symbol<'s> {
     /// Reads an integer in base 62 and returns it with the place after it.
@@ -174,6 +177,192 @@ impl<'s> Symbol<'s> {
             (λ r. (place ≤ r.1) × (place ≤ length self.now → r.1 ≤ length self.now)) }
     {
         self.opt_integer_62(b's', place, looks)
+    }
+
+    /// Returns the place after a disambiguator, which gets no value.
+    ///
+    /// # Errors
+    ///
+    /// Returns `Invalid` as `disambiguator` does.
+    #[inline(always)]
+    pub fn after_disambiguator(&self, place: usize, looks: &mut Looks) -> Result<usize, ParseError>
+        ensures ok { IfOk result (λ j. (v : ℕ) × OptInteger 115 self.now place j v) }
+        ensures err { OnErr result ((j v : ℕ) → OptInteger 115 self.now place j v → ⊥) }
+        ensures read { result_ok result ≡ option_map (λ r. r.1) (optional_at 115 self.now place) }
+        ensures fault { IfErr result (λ e. e ≡ ParseError.Invalid) }
+        ensures grows { looks.old ≤ looks.new }
+        ensures ok_looks { IfOk result (λ j. looks.new ≤ looks.old + 4 * (j - place + 1)) }
+        ensures err_looks { OnErr result
+            (looks.new ≤ looks.old + 4 * (length self.now - place + 1)) }
+        ensures within { IfOk result
+            (λ j. (place ≤ j) × (place ≤ length self.now → j ≤ length self.now)) }
+    {
+        if !self.is_at(b's', place, looks) {
+            return Ok(place);
+        }
+        self.after_tag(place + 1, looks)
+    }
+
+    /// Reads a disambiguator and returns it with the place after it. Returns 0 in its place if it is
+    /// not needed: it then gets no value.
+    ///
+    /// # Errors
+    ///
+    /// Returns `Invalid` as `disambiguator` does.
+    #[tactic(auto, using(crate::proofs::Integers::optional_reads))]
+    #[inline(always)]
+    pub fn disambiguator_if(
+        &self,
+        is_needed: bool,
+        place: usize,
+        looks: &mut Looks,
+    ) -> Result<(u64, usize), ParseError>
+        ensures read { IfOk result (λ r. (v : ℕ) × (is_needed ≡ true → v ≡ r.0) × (Some (v, r.1) ≡
+            optional_at 115 self.now place)) }
+        ensures unread { OnErr result (None ≡ optional_at 115 self.now place) }
+        ensures fault { IfErr result (λ e. e ≡ ParseError.Invalid) }
+        ensures grows { looks.old ≤ looks.new }
+        ensures ok_looks { IfOk result (λ r. looks.new ≤ looks.old + 4 * (r.1 - place + 1)) }
+        ensures err_looks { OnErr result
+            (looks.new ≤ looks.old + 4 * (length self.now - place + 1)) }
+        ensures within { IfOk result
+            (λ r. (place ≤ r.1) × (place ≤ length self.now → r.1 ≤ length self.now)) }
+    {
+        if !self.is_at(b's', place, looks) {
+            return Ok((0, place));
+        }
+        if is_needed {
+            return self.integer_after_tag(place + 1, looks);
+        }
+        let Ok(next) = self.after_tag(place + 1, looks) else {
+            return Err(ParseError::Invalid);
+        };
+        Ok((0, next))
+    }
+
+    /// Returns the place after the integer after a tag. Returns `Invalid` as `integer_after_tag`
+    /// does.
+    // The function is separate for the same reason.
+    #[inline(always)]
+    fn after_tag(&self, place: usize, looks: &mut Looks) -> Result<usize, ParseError>
+        ensures ok { IfOk result (λ j. (v : ℕ) × OneMore self.now place j v) }
+        ensures err { OnErr result ((j v : ℕ) → OneMore self.now place j v → ⊥) }
+        ensures read { result_ok result ≡ option_map (λ r. r.1) (one_more_at self.now place) }
+        ensures fault { IfErr result (λ e. e ≡ ParseError.Invalid) }
+        ensures grows { looks.old ≤ looks.new }
+        ensures ok_looks { IfOk result (λ j. looks.new ≤ looks.old + 4 * (j - place + 1)) }
+        ensures err_looks { OnErr result
+            (looks.new ≤ looks.old + 4 * (length self.now - place + 1)) }
+        ensures within { IfOk result (λ j. (place < j) × (j ≤ length self.now)) }
+    {
+        let Some(next) = self.after_integer(place, looks) else {
+            return Err(ParseError::Invalid);
+        };
+        Ok(next)
+    }
+
+    /// Returns the place after the integer after a tag. Returns `None` if no integer is spelled
+    /// there, or if the integer plus one is 2^64 or more.
+    #[tactic(auto, using(crate::proofs::IntegerEnds::integer_ends))]
+    #[inline(never)]
+    fn after_integer(&self, place: usize, looks: &mut Looks) -> Option<usize>
+        ensures some { IfSome result (λ j. (v : ℕ) × OneMore self.now place j v) }
+        ensures none { IfNone result ((j v : ℕ) → OneMore self.now place j v → ⊥) }
+        ensures grows { looks.old ≤ looks.new }
+        ensures some_looks { IfSome result (λ j. looks.new ≤ looks.old + 4 * (j - place)) }
+        ensures none_looks { IfNone result
+            (looks.new ≤ looks.old + 4 * (length self.now - place + 1)) }
+        ensures within { IfSome result (λ j. (place < j) × (j ≤ length self.now)) }
+    {
+        match self.integer_digit(place, looks) {
+            Ok(Some(first)) => self.after_first_digit(first, place, looks),
+            Ok(None) => Some(place + 1),
+            Err(_) => None,
+        }
+    }
+
+    /// Does the same as `after_integer` for an integer whose first digit was read.
+    // Hashes of crates have ten or eleven digits. The symbol is cut at the first digit, so its
+    // length is tested once. The loop has a constant number of iterations. So the compiler unrolls
+    // it and drops the test of each place.
+    #[inline(always)]
+    fn after_first_digit(&self, first: u64, place: usize, looks: &mut Looks) -> Option<usize>
+        requires first { Digit62 self.now place first }
+        requires small { first < 62 }
+        ensures some { IfSome result (λ j. (v : ℕ) × OneMore self.now place j v) }
+        ensures none { IfNone result ((j v : ℕ) → OneMore self.now place j v → ⊥) }
+        ensures grows { looks.old ≤ looks.new }
+        ensures some_looks { IfSome result (λ j. looks.new + 4 ≤ looks.old + 4 * (j - place)) }
+        ensures none_looks { IfNone result
+            (looks.new ≤ looks.old + 4 * (length self.now - place)) }
+        ensures within { IfSome result (λ j. (place < j) × (j ≤ length self.now)) }
+    {
+        let rest = self.from_digit(place);
+        if rest.len() < UNCHECKED_DIGITS + 2 {
+            return self.after_checked_integer(place, looks);
+        }
+        for step in 0..UNCHECKED_DIGITS - 1 {
+            match rest.integer_digit(step + 1, looks) {
+                Ok(Some(_)) => (),
+                Ok(None) => return Some(place + step + 2),
+                Err(_) => return None,
+            }
+        }
+        match rest.integer_digit(UNCHECKED_DIGITS, looks) {
+            Ok(Some(_)) => (),
+            Ok(None) => return Some(place + UNCHECKED_DIGITS + 1),
+            Err(_) => return None,
+        }
+        if first < FITTING_FIRST && rest.is_at(b'_', UNCHECKED_DIGITS + 1, looks) {
+            return Some(place + UNCHECKED_DIGITS + 2);
+        }
+        self.after_checked_integer(place, looks)
+    }
+
+    /// Returns the symbol's bytes from a digit on. It makes no look.
+    #[tactic(auto, using(crate::proofs::IntegerEnds::digit_boundary))]
+    #[inline(always)]
+    fn from_digit(&self, place: usize) -> Symbol<'s>
+        requires digit { (d : ℕ) × Digit62 self.now place d }
+        ensures bytes { result ≡ drop place self.now }
+        ensures fewer { length result + place ≡ length self.now }
+        ensures fits { length self.now < 2 ^ 63 }
+    {
+        Symbol {
+            inner: &self.inner[place..],
+        }
+    }
+
+    /// Does the same as `after_integer`, and computes the integer to check that it fits.
+    #[inline(never)]
+    fn after_checked_integer(&self, place: usize, looks: &mut Looks) -> Option<usize>
+        requires inside { place < length self.now }
+        ensures some { IfSome result (λ j. (v : ℕ) × OneMore self.now place j v) }
+        ensures none { IfNone result ((j v : ℕ) → OneMore self.now place j v → ⊥) }
+        ensures grows { looks.old ≤ looks.new }
+        ensures some_looks { IfSome result (λ j. looks.new + place ≤ looks.old + j) }
+        ensures none_looks { IfNone result (looks.new ≤ looks.old + (length self.now - place)) }
+        ensures within { IfSome result (λ j. (place < j) × (j ≤ length self.now)) }
+    {
+        let mut number: u64 = 0;
+        for at in place..self.len() {
+            let digit = match self.integer_digit(at, looks) {
+                Ok(Some(digit)) => digit,
+                Ok(None) => {
+                    // The integer is one more than its digits spell, and has one added.
+                    if number > u64::MAX - 2 {
+                        return None;
+                    }
+                    return Some(at + 1);
+                }
+                Err(_) => return None,
+            };
+            let Some(longer) = append_digit(number, 62, digit as u8) else {
+                return None;
+            };
+            number = longer;
+        }
+        None
     }
 
     /// Reads a byte and returns it with the place after it.

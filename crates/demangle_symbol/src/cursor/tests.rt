@@ -14,6 +14,10 @@ fn disambiguator(text: &str) -> Result<(u64, usize), ParseError> {
     Symbol::new(text).disambiguator(0, &mut Looks::new())
 }
 
+fn after_disambiguator(text: &str) -> Result<usize, ParseError> {
+    Symbol::new(text).after_disambiguator(0, &mut Looks::new())
+}
+
 fn namespace(text: &str) -> Result<(u8, usize), ParseError> {
     Symbol::new(text).namespace(0, &mut Looks::new())
 }
@@ -70,6 +74,33 @@ fn disambiguators(rt: HostRuntime) {
         Ok((18446744073709551615, 13))
     );
     assert_eq!(rt; disambiguator("slYGhA16ahye_"), Err(ParseError::Invalid));
+}
+
+#[test]
+fn ends_of_disambiguators(rt: HostRuntime) {
+    assert_eq!(rt; after_disambiguator("x"), Ok(0));
+    assert_eq!(rt; after_disambiguator("s_"), Ok(2));
+    assert_eq!(rt; after_disambiguator("sZ_3foo"), Ok(3));
+    assert_eq!(rt; after_disambiguator("sZZZZZZZZZZ_3foo"), Ok(12));
+    assert_eq!(rt; after_disambiguator("skZZZZZZZZZZ_3foo"), Ok(13));
+    assert_eq!(rt; after_disambiguator("slYGhA16ahyd_"), Ok(13));
+    assert_eq!(rt; after_disambiguator("s00lYGhA16ahyd_"), Ok(15));
+    assert_eq!(rt;
+        after_disambiguator("slYGhA16ahye_"),
+        Err(ParseError::Invalid)
+    );
+    assert_eq!(rt;
+        after_disambiguator("s100000000000_"),
+        Err(ParseError::Invalid)
+    );
+    assert_eq!(rt;
+        after_disambiguator("sZZZZZZZ.ZZZZ_"),
+        Err(ParseError::Invalid)
+    );
+    assert_eq!(rt;
+        after_disambiguator("s0123456789"),
+        Err(ParseError::Invalid)
+    );
 }
 
 #[test]

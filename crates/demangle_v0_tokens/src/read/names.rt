@@ -40,6 +40,33 @@ pub fn disambiguated_name(
     Some((ident, number, next))
 }
 
+/// Reads a disambiguator, which gets no value, and the name after it. Returns the name and the place
+/// after it, or `None` if they are not spelled there.
+#[inline(always)]
+pub fn name_after_disambiguator(
+    symbol: &Symbol<'_>,
+    place: usize,
+    looks: &mut Looks,
+) -> Option<(Ident, usize)>
+    ensures some { (f : Ident → ℕ → Token) → IfSome result (λ r. (d : ℕ) × (Parsed (f r.0 d) (Some r.1) ≡
+        (named_group symbol.now place f).reads)) }
+    ensures none { (f : Ident → ℕ → Token) → IfNone result (NotParsed FixedText.Invalid ≡ (named_group
+        symbol.now place f).reads) }
+    ensures grows { looks.old ≤ looks.new }
+    ensures looks { (f : Ident → ℕ → Token) → MatchOption result (looks.new ≤ looks.old + total
+        (named_group symbol.now place f).costs) (λ r. looks.new + name_size r.0 ≤ looks.old + total
+        (named_group symbol.now place f).costs) }
+    ensures in_bounds { IfSome result (λ r. IsIdentWithin symbol.now r.0) }
+{
+    let Ok(at) = symbol.after_disambiguator(place, looks) else {
+        return None;
+    };
+    let Ok((ident, next)) = symbol.ident(at, looks) else {
+        return None;
+    };
+    Some((ident, next))
+}
+
 impl TokenReader<'_> {
     /// Reads the name of a field, whose disambiguator is not printed.
     #[inline(always)]
@@ -50,8 +77,8 @@ impl TokenReader<'_> {
             self.now.symbol.now place).costs }
         ensures in_bounds { IsTokenWithin self.now.symbol.now (token_of result) }
     {
-        match disambiguated_name(self.symbol, place, looks) {
-            Some((ident, _, next)) => token_read(Token::FieldName(ident), next),
+        match name_after_disambiguator(self.symbol, place, looks) {
+            Some((ident, next)) => token_read(Token::FieldName(ident), next),
             None => invalid_token(),
         }
     }

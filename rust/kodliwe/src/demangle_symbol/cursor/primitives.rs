@@ -9,6 +9,9 @@ pub const MAX_DEPTH: u32 = 500;
 /// The number of digits that are read without an overflow check. 62^10 is below 2^60.
 const UNCHECKED_DIGITS: usize = 10;
 
+/// An integer of eleven digits fits if its first digit is smaller. 21 * 62^10 is below 2^64 - 2.
+const FITTING_FIRST: u64 = 21;
+
 impl<'s> Symbol<'s> {
     /// Reads an integer in base 62 and returns it with the place after it.
     ///
@@ -121,6 +124,130 @@ impl<'s> Symbol<'s> {
         looks: &mut Looks,
     ) -> Result<(u64, usize), ParseError> {
         self.opt_integer_62(b's', place, looks)
+    }
+
+    /// Returns the place after a disambiguator, which gets no value.
+    ///
+    /// # Errors
+    ///
+    /// Returns `Invalid` as `disambiguator` does.
+    #[inline(always)]
+    pub fn after_disambiguator(
+        &self,
+        place: usize,
+        looks: &mut Looks,
+    ) -> Result<usize, ParseError> {
+        if !self.is_at(b's', place, looks) {
+            return Ok(place);
+        }
+        self.after_tag(place + 1, looks)
+    }
+
+    /// Reads a disambiguator and returns it with the place after it. Returns 0 in its place if it is
+    /// not needed: it then gets no value.
+    ///
+    /// # Errors
+    ///
+    /// Returns `Invalid` as `disambiguator` does.
+    #[inline(always)]
+    pub fn disambiguator_if(
+        &self,
+        is_needed: bool,
+        place: usize,
+        looks: &mut Looks,
+    ) -> Result<(u64, usize), ParseError> {
+        if !self.is_at(b's', place, looks) {
+            return Ok((0, place));
+        }
+        if is_needed {
+            return self.integer_after_tag(place + 1, looks);
+        }
+        let Ok(next) = self.after_tag(place + 1, looks) else {
+            return Err(ParseError::Invalid);
+        };
+        Ok((0, next))
+    }
+
+    /// Returns the place after the integer after a tag. Returns `Invalid` as `integer_after_tag`
+    /// does.
+    // The function is separate for the same reason.
+    #[inline(always)]
+    fn after_tag(&self, place: usize, looks: &mut Looks) -> Result<usize, ParseError> {
+        let Some(next) = self.after_integer(place, looks) else {
+            return Err(ParseError::Invalid);
+        };
+        Ok(next)
+    }
+
+    /// Returns the place after the integer after a tag. Returns `None` if no integer is spelled
+    /// there, or if the integer plus one is 2^64 or more.
+    #[inline(never)]
+    fn after_integer(&self, place: usize, looks: &mut Looks) -> Option<usize> {
+        match self.integer_digit(place, looks) {
+            Ok(Some(first)) => self.after_first_digit(first, place, looks),
+            Ok(None) => Some(place + 1),
+            Err(_) => None,
+        }
+    }
+
+    /// Does the same as `after_integer` for an integer whose first digit was read.
+    // Hashes of crates have ten or eleven digits. The symbol is cut at the first digit, so its
+    // length is tested once. The loop has a constant number of iterations. So the compiler unrolls
+    // it and drops the test of each place.
+    #[inline(always)]
+    fn after_first_digit(&self, first: u64, place: usize, looks: &mut Looks) -> Option<usize> {
+        let rest = self.from_digit(place);
+        if rest.len() < UNCHECKED_DIGITS + 2 {
+            return self.after_checked_integer(place, looks);
+        }
+        for step in 0..UNCHECKED_DIGITS - 1 {
+            match rest.integer_digit(step + 1, looks) {
+                Ok(Some(_)) => (),
+                Ok(None) => return Some(place + step + 2),
+                Err(_) => return None,
+            }
+        }
+        match rest.integer_digit(UNCHECKED_DIGITS, looks) {
+            Ok(Some(_)) => (),
+            Ok(None) => return Some(place + UNCHECKED_DIGITS + 1),
+            Err(_) => return None,
+        }
+        if first < FITTING_FIRST && rest.is_at(b'_', UNCHECKED_DIGITS + 1, looks) {
+            return Some(place + UNCHECKED_DIGITS + 2);
+        }
+        self.after_checked_integer(place, looks)
+    }
+
+    /// Returns the symbol's bytes from a digit on. It makes no look.
+    #[inline(always)]
+    fn from_digit(&self, place: usize) -> Symbol<'s> {
+        Symbol {
+            inner: &self.inner[place..],
+        }
+    }
+
+    /// Does the same as `after_integer`, and computes the integer to check that it fits.
+    #[inline(never)]
+    fn after_checked_integer(&self, place: usize, looks: &mut Looks) -> Option<usize> {
+        let mut number: u64 = 0;
+        for at in place..self.len() {
+            let digit = match self.integer_digit(at, looks) {
+                Ok(Some(digit)) => digit,
+                Ok(None) => {
+                    // The integer is one more than its digits spell, and has one added.
+                    if number > u64::MAX - 2 {
+                        return None;
+                    }
+                    return Some(at + 1);
+                }
+                Err(_) => return None,
+            };
+            let Some(longer) = append_digit(number, 62, digit as u8) else {
+                return None;
+            };
+            number = longer;
+        }
+        None
     }
 
     /// Reads a byte and returns it with the place after it.

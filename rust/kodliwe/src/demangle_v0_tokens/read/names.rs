@@ -22,12 +22,29 @@ pub fn disambiguated_name(
     Some((ident, number, next))
 }
 
+/// Reads a disambiguator, which gets no value, and the name after it. Returns the name and the place
+/// after it, or `None` if they are not spelled there.
+#[inline(always)]
+pub fn name_after_disambiguator(
+    symbol: &Symbol<'_>,
+    place: usize,
+    looks: &mut Looks,
+) -> Option<(Ident, usize)> {
+    let Ok(at) = symbol.after_disambiguator(place, looks) else {
+        return None;
+    };
+    let Ok((ident, next)) = symbol.ident(at, looks) else {
+        return None;
+    };
+    Some((ident, next))
+}
+
 impl TokenReader<'_> {
     /// Reads the name of a field, whose disambiguator is not printed.
     #[inline(always)]
     pub(super) fn read_field(&self, place: usize, looks: &mut Looks) -> TokenOutcome {
-        match disambiguated_name(self.symbol, place, looks) {
-            Some((ident, _, next)) => token_read(Token::FieldName(ident), next),
+        match name_after_disambiguator(self.symbol, place, looks) {
+            Some((ident, next)) => token_read(Token::FieldName(ident), next),
             None => invalid_token(),
         }
     }
