@@ -110,7 +110,24 @@ fn write_at(out: &mut [u8], place: usize, bytes: &[u8])
 {
     if place < out.len() {
         let kept = bytes.len().min(out.len() - place);
-        out[place..place + kept].copy_from_slice(&bytes[..kept]);
+        copy_piece(&bytes[..kept], &mut out[place..place + kept]);
+    }
+}
+
+/// Copies a piece to memory of its size.
+// Many pieces, such as `::`, have one or two bytes. They need no call of the C library.
+#[inline(always)]
+fn copy_piece(piece: &[u8], room: &mut [u8])
+    requires { length room.old ≡ length piece.now }
+    ensures { room.new ≡ piece.now }
+{
+    match piece {
+        [byte] => room[0] = *byte,
+        [first, second] => {
+            room[0] = *first;
+            room[1] = *second;
+        }
+        _ => room.copy_from_slice(piece),
     }
 }
 
