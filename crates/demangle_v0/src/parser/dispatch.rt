@@ -1,8 +1,8 @@
 //! Calls the method of each continuation.
 ghost use Rattle.std.specs.Prelude.{◌≡◌, ◌+◌, ◌≤◌, true, false};
 ghost use Rattle.demangle_v0.specs.Skips.{is_skipped};
-ghost use Rattle.demangle_v0.specs.Parsers.{Performed, CanPerform};
 ghost use Rattle.demangle_v0.specs.Loops.{first_looks};
+ghost use Rattle.demangle_v0.specs.Parsers.{PerformedAs, CanPerform};
 
 use crate::parser::constant_lists::ConstantList;
 use crate::parser::machine::Parser;
@@ -10,27 +10,29 @@ use crate::parser::out_of_line::OutOfLine;
 use crate::parser::types::may_have_splat;
 use crate::parser::{Continuation, StepError};
 use demangle_v0_tokens::output::Output;
-use demangle_v0_tokens::token::TokenKind;
 
 impl<const N: usize> Parser<'_, N> {
-    /// Performs a continuation, and returns the one to run next.
+    /// Performs a continuation, and returns the one to run next. If `defers` is true, a path is
+    /// performed with those that are nested in one another, and with their names.
     ///
     /// An impl path and folded arguments are only read here if nothing is printed.
     #[inline(always)]
     pub(super) fn dispatch<V: Output>(
         &mut self,
         continuation: Continuation,
+        defers: bool,
         output: &mut V,
     ) -> Result<Continuation, StepError>
         requires can_step { CanPerform V.Output continuation self.old output.old }
         requires unskipped { V.is_printed ≡ true → is_skipped
             self.old.source.fold_arguments continuation ≡ false }
-        ensures performs { Performed V.Output continuation self.old output.old result self.new output.new }
-        ensures least { continuation ≡ Continuation.Path → self.old.looks + first_looks Continuation.Path self.old.state ≤
-            self.new.looks }
+        ensures performs { PerformedAs defers V.Output continuation self.old output.old result
+            self.new output.new }
+        ensures least { continuation ≡ Continuation.Path → self.old.looks +
+            first_looks Continuation.Path self.old.state ≤ self.new.looks }
     {
         match continuation {
-            Continuation::Path => self.path(output),
+            Continuation::Path => self.path(defers, output),
             Continuation::NestedName => self.nested_name(output),
             Continuation::InherentImplPath => Ok(self.read_impl_path(false)),
             Continuation::TraitImplPath => Ok(self.read_impl_path(true)),
@@ -40,7 +42,7 @@ impl<const N: usize> Parser<'_, N> {
             Continuation::Generic => Ok(self.generic()),
             Continuation::FirstArgument => Ok(self.arguments(true)),
             Continuation::NextArgument => Ok(self.arguments(false)),
-            Continuation::Lifetime => self.end_with_token(TokenKind::LifetimeIndex, output),
+            Continuation::Lifetime => self.out_of_line(OutOfLine::Lifetime, output),
             Continuation::Type | Continuation::TaggedType => {
                 self.type_(may_have_splat(continuation), output)
             }

@@ -5,10 +5,12 @@ ghost use Rattle.demangle_v0.specs.Productions.{out_of_line_continuation};
 use crate::parser::machine::Parser;
 use crate::parser::{Continuation, StepError};
 use demangle_v0_tokens::output::Output;
+use demangle_v0_tokens::token::TokenKind;
 
 /// A continuation that few symbols have.
 #[derive(Clone, Copy)]
 pub enum OutOfLine {
+    Lifetime,
     FunctionQualifiers,
     DynBinder,
     BindingName,
@@ -32,6 +34,7 @@ impl<const N: usize> Parser<'_, N> {
         ensures performs { Performed V.Output (out_of_line_continuation continuation) self.old output.old result self.new output.new }
     {
         match continuation {
+            OutOfLine::Lifetime => self.end_with_token(TokenKind::LifetimeIndex, output),
             OutOfLine::FunctionQualifiers => self.function_qualifiers(output),
             OutOfLine::DynBinder => self.dyn_binder(output),
             OutOfLine::BindingName => self.binding_name(output),

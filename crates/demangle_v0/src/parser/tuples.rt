@@ -1,12 +1,25 @@
 //! Continuations of tuple types.
 ghost use Rattle.std.specs.Prelude.{Ok};
-ghost use Rattle.demangle_v0.specs.Parsers.{CanAdvance, Advanced};
+ghost use Rattle.demangle_v0.specs.Parsers.{CanAdvance, Advanced, AdvancedRest};
+ghost use Rattle.demangle_v0_tokens.specs.Tags.{constructed_of};
+ghost use Rattle.demangle_v0_tokens.specs.declared.tags.ConstructedType.TheVariants as ConstructedType;
 
 use crate::parser::Continuation;
 use crate::parser::machine::Parser;
 use demangle_v0_tokens::fixed_texts::FixedText;
 
 impl<const N: usize> Parser<'_, N> {
+    /// Queues the `(` of a tuple, after its `T`.
+    #[inline(always)]
+    pub(super) fn tuple_type(&mut self) -> Continuation
+        requires can_step { CanAdvance Continuation.DynBinder self.old }
+        ensures performs { AdvancedRest (constructed_of ConstructedType.Tuple) 5 50 9 self.old (Ok result)
+            self.new }
+    {
+        self.put(FixedText::OpenParen);
+        Continuation::FirstTupleType
+    }
+
     /// Starts the first type of a tuple, or ends the tuple.
     #[inline(always)]
     pub(super) fn first_tuple_type(&mut self) -> Continuation

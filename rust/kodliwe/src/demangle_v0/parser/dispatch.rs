@@ -7,20 +7,21 @@ use crate::demangle_v0::parser::out_of_line::OutOfLine;
 use crate::demangle_v0::parser::types::may_have_splat;
 use crate::demangle_v0::parser::{Continuation, StepError};
 use crate::demangle_v0_tokens::output::Output;
-use crate::demangle_v0_tokens::token::TokenKind;
 
 impl<const N: usize> Parser<'_, N> {
-    /// Performs a continuation, and returns the one to run next.
+    /// Performs a continuation, and returns the one to run next. If `defers` is true, a path is
+    /// performed with those that are nested in one another, and with their names.
     ///
     /// An impl path and folded arguments are only read here if nothing is printed.
     #[inline(always)]
     pub(super) fn dispatch<V: Output>(
         &mut self,
         continuation: Continuation,
+        defers: bool,
         output: &mut V,
     ) -> Result<Continuation, StepError> {
         match continuation {
-            Continuation::Path => self.path(output),
+            Continuation::Path => self.path(defers, output),
             Continuation::NestedName => self.nested_name(output),
             Continuation::InherentImplPath => Ok(self.read_impl_path(false)),
             Continuation::TraitImplPath => Ok(self.read_impl_path(true)),
@@ -30,7 +31,7 @@ impl<const N: usize> Parser<'_, N> {
             Continuation::Generic => Ok(self.generic()),
             Continuation::FirstArgument => Ok(self.arguments(true)),
             Continuation::NextArgument => Ok(self.arguments(false)),
-            Continuation::Lifetime => self.end_with_token(TokenKind::LifetimeIndex, output),
+            Continuation::Lifetime => self.out_of_line(OutOfLine::Lifetime, output),
             Continuation::Type | Continuation::TaggedType => {
                 self.type_(may_have_splat(continuation), output)
             }

@@ -4,10 +4,12 @@
 use crate::demangle_v0::parser::machine::Parser;
 use crate::demangle_v0::parser::{Continuation, StepError};
 use crate::demangle_v0_tokens::output::Output;
+use crate::demangle_v0_tokens::token::TokenKind;
 
 /// A continuation that few symbols have.
 #[derive(Clone, Copy)]
 pub enum OutOfLine {
+    Lifetime,
     FunctionQualifiers,
     DynBinder,
     BindingName,
@@ -28,6 +30,7 @@ impl<const N: usize> Parser<'_, N> {
         output: &mut V,
     ) -> Result<Continuation, StepError> {
         match continuation {
+            OutOfLine::Lifetime => self.end_with_token(TokenKind::LifetimeIndex, output),
             OutOfLine::FunctionQualifiers => self.function_qualifiers(output),
             OutOfLine::DynBinder => self.dyn_binder(output),
             OutOfLine::BindingName => self.binding_name(output),

@@ -6,6 +6,13 @@ use crate::demangle_v0::parser::machine::Parser;
 use crate::demangle_v0_tokens::fixed_texts::FixedText;
 
 impl<const N: usize> Parser<'_, N> {
+    /// Queues the `(` of a tuple, after its `T`.
+    #[inline(always)]
+    pub(super) fn tuple_type(&mut self) -> Continuation {
+        self.put(FixedText::OpenParen);
+        Continuation::FirstTupleType
+    }
+
     /// Starts the first type of a tuple, or ends the tuple.
     #[inline(always)]
     pub(super) fn first_tuple_type(&mut self) -> Continuation {

@@ -63,7 +63,8 @@ impl<const N: usize> Parser<'_, N> {
     }
 
     /// Starts a type that is not basic, after its tag.
-    // References are the most common types and nest deepest, so only they do not need a call.
+    // References and tuples nest deepest, and back references repeat them. So only these do not need a
+    // call.
     #[inline(always)]
     fn type_after_tag<V: Output>(
         &mut self,
@@ -75,7 +76,11 @@ impl<const N: usize> Parser<'_, N> {
             TypeKind::MutReference => Ok(self.reference_type(true)),
             // A copy, so that the other results need not be at the address to which the call
             // writes.
-            TypeKind::Constructed(kind) => Ok(self.constructed_type(kind, output)?),
+            TypeKind::Constructed(kind) => match kind {
+                ConstructedType::Tuple => Ok(self.tuple_type()),
+                ConstructedType::Backref => self.follow_backref(Continuation::Type, output),
+                _ => Ok(self.constructed_type(kind, output)?),
+            },
         }
     }
 
@@ -105,10 +110,7 @@ impl<const N: usize> Parser<'_, N> {
                 self.put(FixedText::OpenBracket);
                 Ok(Continuation::Type)
             }
-            ConstructedType::Tuple => {
-                self.put(FixedText::OpenParen);
-                Ok(Continuation::FirstTupleType)
-            }
+            ConstructedType::Tuple => Ok(self.tuple_type()),
             ConstructedType::Backref => self.follow_backref(Continuation::Type, output),
             ConstructedType::Pattern => {
                 self.push(Continuation::PatternIs);

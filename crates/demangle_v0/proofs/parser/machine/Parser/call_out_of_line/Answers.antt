@@ -1,6 +1,18 @@
+use Rattle.std.proofs.Common.{arith, refl}
+use Rattle.demangle_v0.specs.Traces.{trace_at}
 use Rattle.demangle_v0.specs.declared.parser.Continuation.TheVariants as continuation
 use Rattle.demangle_v0.proofs.Parsers.{advanced}
+use Rattle.demangle_v0.proofs.StepCases.{alike}
 use Rattle.demangle_v0.proofs.parser.machine.Parser.call_out_of_line.Goals as goal
+
+pub returns-in-Lifetime : goal.returns-in-Lifetime
+unfolding trace_at
+returns-in-Lifetime g c = record {
+  performs = rw c.in-Lifetime.is (record {
+    does = alike (omega arith) refl (omega arith) (omega arith) c.end_with_token.ensures.performs.does;
+    same = c.end_with_token.ensures.performs.same;
+  });
+}
 
 pub returns-in-Variant : goal.returns-in-Variant
 returns-in-Variant g c = record {

@@ -21,8 +21,7 @@ unfolding parse trace_at
 returns-in-MutPointer g c = record { performs = rw (c.in-MutPointer.is, c.put-in-MutPointer.ensures) (record { does = marks continuation.Mut refl (omega arith) (omega arith) (omega (arith, c.requires.can_step.fits)); same = (refl, refl, refl) }) }
 
 pub returns-in-Tuple : goal.returns-in-Tuple
-unfolding parse trace_at
-returns-in-Tuple g c = record { performs = rw (c.in-Tuple.is, c.put-in-Tuple.ensures) (record { does = marks continuation.FirstTupleType refl (omega arith) (omega arith) (omega (arith, c.requires.can_step.fits)); same = (refl, refl, refl) }) }
+returns-in-Tuple g c = record { performs = rw c.in-Tuple.is (advanced_rest g.V.Output c.args.output.now _ 5 50 9 c.tuple_type.ensures.performs) }
 
 pub returns-in-Array : goal.returns-in-Array
 unfolding parse trace_at

@@ -1,0 +1,10 @@
+use Rattle.std.proofs.Common.{arith, refl}
+use Rattle.demangle_v0_grammar.specs.Reading.{parse}
+use Rattle.demangle_v0.specs.Traces.{trace_at}
+use Rattle.demangle_v0.specs.declared.parser.Continuation.TheVariants as continuation
+use Rattle.demangle_v0.proofs.StepCases.{marks}
+use Rattle.demangle_v0.proofs.parser.machine.Parser.tuple_type.Goals as goal
+
+pub returns : goal.returns
+unfolding parse trace_at
+returns g c = record { performs = λ p. rw c.put.ensures (record { does = marks continuation.FirstTupleType refl (omega arith) (omega arith) (omega (arith, c.requires.can_step.fits)); same = (refl, refl, refl) }) }
