@@ -112,7 +112,7 @@ fn run_bytes_of(group: &[u8; 16]) -> usize
     ensures value { result ≡ prefix_len is_run_byte group.now }
 {
     // The compiler vectorizes the loop. The distance of the first byte is the lowest byte of the
-    // word, so trailing zeros stand for run bytes.
+    // word. So eight trailing zeros are one run byte.
     let mut distances = [0; 16];
     for k in 0..16 {
         distances[k] = run_byte_distance(group[k]);
@@ -152,7 +152,7 @@ fn run_len_by_ends(text: &[u8], first: &[u8; 8], last: &[u8; 8]) -> usize
     requires last { last.now ≡ drop (length text.now - 8) text.now }
     ensures { result ≡ prefix_len is_run_byte text.now }
 {
-    // Both ends are one group, in which the bytes between them may be twice.
+    // Both ends are one group. Bytes in the middle may be in it twice.
     let mut group = [0; 16];
     group[..8].copy_from_slice(first);
     group[8..].copy_from_slice(last);

@@ -26,7 +26,7 @@ fn push_reference(symbol: &mut String, place: usize, zeros: usize) -> Result<(),
     symbol.push_str("_")
 }
 
-/// Returns a generic path with a unit, and then `count` references to the argument before. Each
+/// Returns a generic path with the type `()`, and then `count` references to the argument before. Each
 /// reference takes one step more than the one before.
 fn chain(alloc: Global, count: usize, end: &str) -> Result<String, AllocError> {
     let mut symbol = String::new(alloc);
@@ -135,6 +135,23 @@ fn runs_of_each_kind(rt: HostRuntime) -> Result<(), Fail> {
             "mycrate[3c1c0]::foo::bar",
             "mycrate[3c1c0]::foo::bar",
         ),
+        ("_RYFGZZ_", "_RYFGZZ_", "_RYFGZZ_"),
+        (
+            "_RIC1aFG8_EuE",
+            "a::<for<'a, 'b, 'c, 'd, 'e, 'f, 'g, 'h, 'i, 'j> fn()>",
+            "a::<_>",
+        ),
+        (
+            "_RNqCs4fqI2P2rA04_11utf8_identsu30____7hkackfecea1cbdathfdh9hlq6y",
+            "utf8_idents[317d481089b8c8fe]::საჭმელად_გემრიელი_სადილი",
+            "utf8_idents[317d481089b8c8fe]::საჭმელად_გემრიელი_სადილი",
+        ),
+        (
+            "_RNqCs4fqI2P2rA04_11utf8_identsu30____7hkackfecea1cbdathfdh9hlq6",
+            "_RNqCs4fqI2P2rA04_11utf8_identsu30____7hkackfecea1cbdathfdh9hlq6",
+            "_RNqCs4fqI2P2rA04_11utf8_identsu30____7hkackfecea1cbdathfdh9hlq6",
+        ),
+        ("_RNvC4u32a3foo", "u32a::foo", "u32a::foo"),
         ("_RUBY", "_RUBY", "_RUBY"),
         ("_R", "_R", "_R"),
     ] {
@@ -174,6 +191,26 @@ fn texts_have_all_lengths_about_that_of_the_buffer(rt: HostRuntime) -> Result<()
     let format = Format::unfolded(false, 1_000_000);
     for count in 1..=2usize {
         for len in (245..260usize).chain(360..385usize) {
+            let mut name = String::new(alloc);
+            for _ in 0..len {
+                name.push_str("x")?;
+            }
+            let text = arguments(alloc, "a", name.as_str(), count.saturating_add(1))?;
+            let symbol = names(alloc, len, count, "E")?;
+            assert_writes(&rt, symbol.as_str(), format, text.as_bytes());
+            let damaged = names(alloc, len, count, "")?;
+            assert_writes(&rt, damaged.as_str(), format, damaged.as_bytes());
+        }
+    }
+    Ok(())
+}
+
+#[test]
+fn texts_have_all_lengths_about_twice_that_of_the_run(rt: HostRuntime) -> Result<(), Fail> {
+    let alloc = rt.alloc();
+    let format = Format::unfolded(false, 1_000_000);
+    for count in 2..=9usize {
+        for len in 10..40usize {
             let mut name = String::new(alloc);
             for _ in 0..len {
                 name.push_str("x")?;

@@ -3,9 +3,10 @@
 //!
 //! A back reference leads to a part that was read before, which may have further references. So a
 //! text can need far more steps than it has bytes. One that is not a symbol must not be printed to
-//! its end. Here a parse has fuel in proportion to the bytes that it read. A step uses up one, and
-//! more if it reads many bytes. No contract says how many looks that allows: the fuel decides only
-//! whether a path is printed first.
+//! its end. Here a parse has fuel in proportion to the bytes that it read. An iteration of the loop
+//! uses up one, and more if it reads many bytes. Printed bytes are not counted: the caller's limit
+//! bounds those. No contract says how many looks that allows: the fuel decides only whether a path
+//! is printed first.
 
 use crate::demangle_sink::{SizeLimitedFmtAdapter, TextSink};
 use crate::demangle_symbol::cursor::{Looks, Symbol};
@@ -83,8 +84,8 @@ impl<const N: usize> Parser<'_, N> {
         Some(fuel)
     }
 
-    /// Returns whether a path began with a reference that leads to the path's tags. Such a path never
-    /// ends.
+    /// Returns whether a path began with a reference that leads to the path's tags. Such a path is
+    /// printed up to the limit of depth.
     #[inline(always)]
     fn leads_to_itself(
         &self,
@@ -115,7 +116,8 @@ impl<const N: usize> Parser<'_, N> {
     }
 
     /// Prints until nothing is left. Returns `false` if the fuel is used up or the stack is full, and
-    /// after a syntax error. Also returns `false` if the limit or the sink rejects a piece.
+    /// after a syntax error. Also returns `false` if the limit or the sink rejects a piece, if a path
+    /// refers to itself, or if a target ends after its reference.
     #[inline(never)]
     fn print_within<S: TextSink>(
         &mut self,

@@ -16,6 +16,10 @@ const TEXT_SIZE: usize = 768;
 /// The most bytes of a run that is printed first. Few texts are longer than two times their run.
 const MAX_RUN: usize = TEXT_SIZE / 2;
 
+/// The most bytes of such a text beyond two times its run. A short run may print any number of
+/// lifetimes, or the target of a reference again and again.
+const MORE_TEXT: usize = 64;
+
 /// After a run that was printed in vain, runs of this many times its bytes are not printed first.
 const PAUSE: usize = 8;
 
@@ -51,19 +55,75 @@ impl TextSink for ShortText {
     }
 }
 
-/// Returns whether a run is printed first: a v0 run whose text is probably short. A lower limit
-/// would cut some texts in vain.
+/// Returns whether these bytes may begin a part that takes far longer to print than to validate: a
+/// name in Punycode of ten bytes or more, or a binder of two lifetimes or more.
+#[inline(always)]
+fn may_print_slowly(first: u8, second: u8, third: u8) -> bool {
+    let punycode =
+        (first == b'u') & (second >= b'1') & (second <= b'9') & (third >= b'0') & (third <= b'9');
+    let binder = ((first == b'F') | (first == b'D')) & (second == b'G') & (third != b'_');
+    punycode | binder
+}
+
+/// Returns whether such a part may begin in the group of 16 bytes at `from`.
+#[inline(always)]
+fn group_may_print_slowly(run: &[u8], from: usize) -> bool {
+    // Arrays need no bounds check in the loop, so the compiler vectorizes it.
+    let Some(firsts) = run[from..].first_chunk::<16>() else {
+        return true;
+    };
+    let Some(seconds) = run[from + 1..].first_chunk::<16>() else {
+        return true;
+    };
+    let Some(thirds) = run[from + 2..].first_chunk::<16>() else {
+        return true;
+    };
+    let mut any = false;
+    for k in 0..16 {
+        any |= may_print_slowly(firsts[k], seconds[k], thirds[k]);
+    }
+    any
+}
+
+/// Returns whether a run of 18 bytes or more may have such a part. Validation decodes no name, and
+/// prints no lifetime.
+fn run_may_print_slowly(run: &[u8]) -> bool {
+    let Some(last) = run.len().checked_sub(18) else {
+        return false;
+    };
+    let mut from = 0;
+    while from < last {
+        if group_may_print_slowly(run, from) {
+            return true;
+        }
+        from += 16;
+    }
+    group_may_print_slowly(run, last)
+}
+
+/// Returns whether a run is printed first: a v0 run whose text is probably short and printed fast.
+/// With a limit below the buffer's size, some texts would be cut in vain.
 #[inline(always)]
 fn is_printed_first(run: &str, format: Format) -> bool {
-    run.starts_with("_R") && run.len() <= MAX_RUN && format.limit >= TEXT_SIZE
+    run.starts_with("_R")
+        && run.len() <= MAX_RUN
+        && format.limit >= TEXT_SIZE
+        && !run_may_print_slowly(run.as_bytes())
+}
+
+/// Returns the most bytes of the text of a run that is printed first.
+#[inline(always)]
+fn text_limit(run: &str, format: Format) -> usize {
+    let most = run.len().saturating_mul(2).saturating_add(MORE_TEXT);
+    format.limit.min(most)
 }
 
 /// Prints a run that is a v0 symbol, as `value::printing::print_v0_run` does, with fuel for its
-/// steps. Returns `false` also if the fuel is used up.
+/// steps and a lower limit. Returns `false` if the run is not known to be a symbol then.
 #[inline(always)]
 fn print_run_within<S: TextSink>(run: &str, out: &mut S, format: Format) -> bool {
     let text = without_thin_lto(run);
-    let mut limited = SizeLimitedFmtAdapter::new(out, format.limit);
+    let mut limited = SizeLimitedFmtAdapter::new(out, text_limit(run, format));
     let read = crate::demangle_v0::demangle_printed_within(
         text,
         &mut limited,
@@ -77,8 +137,8 @@ fn print_run_within<S: TextSink>(run: &str, out: &mut S, format: Format) -> bool
     is_allowed(suffix, &mut looks) && put_piece(suffix, out).is_ok()
 }
 
-/// Prints a v0 run, and then writes its text. Returns `false` if it is still unknown whether the
-/// run is a symbol, or if the text is long. Then it writes nothing.
+/// Prints a v0 run, and then writes its text. Returns `false` if the run is not known to be a symbol
+/// then, or if the size would exceed `usize::MAX`. Then it writes nothing.
 // It is not inlined: its buffer and its parser need no stack while the run is read again.
 #[inline(never)]
 fn put_printed<'b>(run: &str, out: &mut SliceSink<'b>, format: Format) -> bool {
@@ -87,7 +147,7 @@ fn put_printed<'b>(run: &str, out: &mut SliceSink<'b>, format: Format) -> bool {
         return false;
     }
     let bytes = text.held.as_slice();
-    // The pieces up to the last count would be written one by one, and some may have room.
+    // If the count overflows, `put_run` still writes the pieces before that.
     if bytes.len() > usize::MAX - out.len() {
         return false;
     }

@@ -84,7 +84,7 @@ fn run_byte_distance(byte: u8) -> u8 {
 #[inline(always)]
 fn run_bytes_of(group: &[u8; 16]) -> usize {
     // The compiler vectorizes the loop. The distance of the first byte is the lowest byte of the
-    // word, so trailing zeros stand for run bytes.
+    // word. So eight trailing zeros are one run byte.
     let mut distances = [0; 16];
     for k in 0..16 {
         distances[k] = run_byte_distance(group[k]);
@@ -115,7 +115,7 @@ fn run_len_by_groups(text: &[u8], last: &[u8; 16]) -> usize {
 /// Returns the length of the run at the start of a text of 8 to 16 bytes, given its ends.
 #[inline(always)]
 fn run_len_by_ends(text: &[u8], first: &[u8; 8], last: &[u8; 8]) -> usize {
-    // Both ends are one group, in which the bytes between them may be twice.
+    // Both ends are one group. Bytes in the middle may be in it twice.
     let mut group = [0; 16];
     group[..8].copy_from_slice(first);
     group[8..].copy_from_slice(last);

@@ -20,8 +20,8 @@ fn is_thin_lto(ending: &str) -> bool {
         .all(|b| matches!(b, b'A'..=b'F' | b'0'..=b'9' | b'@'))
 }
 
-/// Returns the place from which on only bytes follow that may follow `.llvm.`. Returns `None` if it
-/// is not among the last bytes.
+/// Returns the place from which on only bytes follow that may follow `.llvm.`. Returns `None` if
+/// each of the last `MAX_TAIL` bytes may follow it.
 fn thin_lto_from(bytes: &[u8]) -> Option<usize> {
     let end = bytes.len().saturating_sub(MAX_TAIL);
     let mut from = bytes.len();
@@ -34,8 +34,7 @@ fn thin_lto_from(bytes: &[u8]) -> Option<usize> {
     None
 }
 
-/// Returns whether a text may have a ThinLTO suffix: whether a `.llvm.` is before the last bytes
-/// that may follow one.
+/// Returns whether a text may have a ThinLTO suffix. Returns `false` only if it has none.
 fn may_be_thin_lto(text: &str) -> bool {
     let bytes = text.as_bytes();
     // Most texts have few such bytes at their end, so that this reads less than a search for a `.`.
