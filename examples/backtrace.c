@@ -8,7 +8,7 @@
  *
  * That stack has 16 KiB. This is enough for every symbol except those that are made to be deep: the handler was seen to
  * touch 8.9 KB of it, even with the real symbols that need most. A symbol that is made to be deep needs up to 78 KB, and
- * may be short (`_RNvB_1a`, of 8 bytes, needs 14.4). 96 KiB before the stack cannot be touched. So such a symbol ends the
+ * may be short (`_RNvB_1a`, of 8 bytes, needs 14.5). 96 KiB before the stack cannot be touched. So such a symbol ends the
  * program and overwrites nothing. A program that prints a stranger's symbols needs a stack of 96 KiB. */
 #ifndef _GNU_SOURCE
 #define _GNU_SOURCE
