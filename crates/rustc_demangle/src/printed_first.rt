@@ -82,8 +82,11 @@ impl TextSink for ShortText {
 /// name in Punycode of ten bytes or more, or a binder of two lifetimes or more.
 #[inline(always)]
 fn may_print_slowly(first: u8, second: u8, third: u8) -> bool {
-    let punycode =
-        (first == b'u') & (second >= b'1') & (second <= b'9') & (third >= b'0') & (third <= b'9');
+    let punycode = (first == b'u')
+        & (second >= b'1')
+        & (second <= b'9')
+        & (third >= b'0')
+        & (third <= b'9');
     let binder = ((first == b'F') | (first == b'D')) & (second == b'G') & (third != b'_');
     punycode | binder
 }

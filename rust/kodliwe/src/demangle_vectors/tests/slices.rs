@@ -192,22 +192,33 @@ fn a_chain_of_references_takes_all_numbers_of_steps() -> Result<(), Fail> {
     Ok(())
 }
 
+/// Asserts that references to a name of this length print it, and that the same run without its end
+/// is not a symbol.
+fn assert_names_print(
+    rt: &impl Abort,
+    alloc: Global,
+    len: usize,
+    count: usize,
+) -> Result<(), Fail> {
+    let format = Format::unfolded(false, 1_000_000);
+    let mut name = String::new(alloc);
+    for _ in 0..len {
+        name.push_str("x")?;
+    }
+    let text = arguments(alloc, "a", name.as_str(), count.saturating_add(1))?;
+    let symbol = names(alloc, len, count, "E")?;
+    assert_writes(rt, symbol.as_str(), format, text.as_bytes());
+    let damaged = names(alloc, len, count, "")?;
+    assert_writes(rt, damaged.as_str(), format, damaged.as_bytes());
+    Ok(())
+}
+
 #[test]
 fn texts_have_all_lengths_about_that_of_the_buffer() -> Result<(), Fail> {
     let rt = HostRuntime;
-    let alloc = rt.alloc();
-    let format = Format::unfolded(false, 1_000_000);
     for count in 1..=2usize {
         for len in (245..260usize).chain(360..385usize) {
-            let mut name = String::new(alloc);
-            for _ in 0..len {
-                name.push_str("x")?;
-            }
-            let text = arguments(alloc, "a", name.as_str(), count.saturating_add(1))?;
-            let symbol = names(alloc, len, count, "E")?;
-            assert_writes(&rt, symbol.as_str(), format, text.as_bytes());
-            let damaged = names(alloc, len, count, "")?;
-            assert_writes(&rt, damaged.as_str(), format, damaged.as_bytes());
+            assert_names_print(&rt, rt.alloc(), len, count)?;
         }
     }
     Ok(())
@@ -216,19 +227,9 @@ fn texts_have_all_lengths_about_that_of_the_buffer() -> Result<(), Fail> {
 #[test]
 fn texts_have_all_lengths_about_twice_that_of_the_run() -> Result<(), Fail> {
     let rt = HostRuntime;
-    let alloc = rt.alloc();
-    let format = Format::unfolded(false, 1_000_000);
     for count in 2..=9usize {
         for len in 10..40usize {
-            let mut name = String::new(alloc);
-            for _ in 0..len {
-                name.push_str("x")?;
-            }
-            let text = arguments(alloc, "a", name.as_str(), count.saturating_add(1))?;
-            let symbol = names(alloc, len, count, "E")?;
-            assert_writes(&rt, symbol.as_str(), format, text.as_bytes());
-            let damaged = names(alloc, len, count, "")?;
-            assert_writes(&rt, damaged.as_str(), format, damaged.as_bytes());
+            assert_names_print(&rt, rt.alloc(), len, count)?;
         }
     }
     Ok(())
