@@ -8,6 +8,11 @@ use crate::rustc_demangle::format::Format;
 use crate::rustc_demangle::strip::without_thin_lto;
 use crate::rustc_demangle::text::put_run;
 use crate::rustc_demangle::value::is_allowed;
+use crate::support::memchr::memchr;
+
+#[cfg(test)]
+#[cfg(feature = "std")]
+mod tests;
 
 /// The most bytes of a text that is printed first. They are on the stack, and each text costs their
 /// clearing.
@@ -22,6 +27,12 @@ const MORE_TEXT: usize = 64;
 
 /// After a run that was printed in vain, runs of this many times its bytes are not printed first.
 const PAUSE: usize = 8;
+
+/// The last digits of the numbers from 31 to 1, and a byte that no run has.
+static ONES: [u8; 32] = *b"1098765432109876543210987654321 ";
+
+/// The digits before those.
+static TENS: [u8; 32] = *b"3322222222221111111111000000000 ";
 
 /// A sink that keeps a short text. It fails if it has no room for a piece.
 struct ShortText {
@@ -101,13 +112,60 @@ fn run_may_print_slowly(run: &[u8]) -> bool {
     group_may_print_slowly(run, last)
 }
 
-/// Returns whether a run is printed first: a v0 run whose text is probably short and printed fast.
-/// With a limit below the buffer's size, some texts would be cut in vain.
+/// Returns whether a path may end where these bytes end: with an `E`, a back reference of up to two
+/// digits, a closure, or a name of 1 to 31 bytes directly after its length. Returns `false` if there
+/// are fewer than 33 bytes.
+#[inline(always)]
+fn may_end_path(path: &[u8]) -> bool {
+    let Some(from) = path.len().checked_sub(33) else {
+        return false;
+    };
+    let Some(before) = path[from..].first_chunk::<32>() else {
+        return true;
+    };
+    let Some(last) = path[from + 1..].first_chunk::<32>() else {
+        return true;
+    };
+    let ends = match last[31] {
+        b'E' => true,
+        b'_' => last[30] == b'B' || last[29] == b'B' || last[28] == b'B',
+        // The name of a closure is empty. Before its length are a disambiguator or another name.
+        b'0' if last[30] == b'_' => last[29] == b's' || last[28] == b's',
+        b'0' => !last[30].is_ascii_digit(),
+        _ => false,
+    };
+    if ends {
+        return true;
+    }
+    // A name of `31 - k` bytes is after its length, whose last digit is at `k`.
+    let mut any = false;
+    for k in 0..32 {
+        any |= (last[k] == ONES[k]) & ((before[k] == TENS[k]) | (k > 21));
+    }
+    any
+}
+
+/// Returns whether a v0 run may be a complete symbol. Its third byte must be the tag of a path, and
+/// a path must be able to end at its first `.`, or else at its end. A symbol that was cut off
+/// probably ends within a name.
+#[inline(always)]
+fn may_be_complete(run: &[u8]) -> bool {
+    let Some(b'C' | b'I' | b'M' | b'N' | b'X' | b'Y') = run.get(2) else {
+        return false;
+    };
+    let end = memchr(b'.', run).unwrap_or(run.len());
+    may_end_path(&run[..end])
+}
+
+/// Returns whether a run is printed first: a v0 run that is probably complete, and whose text is
+/// probably short and printed fast. With a limit below the buffer's size, some texts would be cut in
+/// vain.
 #[inline(always)]
 fn is_printed_first(run: &str, format: Format) -> bool {
     run.starts_with("_R")
         && run.len() <= MAX_RUN
         && format.limit >= TEXT_SIZE
+        && may_be_complete(run.as_bytes())
         && !run_may_print_slowly(run.as_bytes())
 }
 
