@@ -32,7 +32,7 @@ fn special_in(symbol: &Symbol<'_>, part: Part, looks: &mut Looks) -> Option<usiz
         let Some(byte) = symbol.byte(at, looks) else {
             return None;
         };
-        // The bytes of names are all past these two.
+        // Letters, digits and `_` are greater than these two.
         if byte <= b'.' && (byte == b'$' || byte == b'.') {
             return Some(at);
         }

@@ -14,7 +14,7 @@ pub const MAX_DEPTH: u32 = 500;
 /// The number of digits that are read without an overflow check. 62^10 is below 2^60.
 const UNCHECKED_DIGITS: usize = 10;
 
-/// An integer of eleven digits fits if its first digit is smaller. 21 * 62^10 is below 2^64 - 2.
+/// An integer of eleven digits fits if its first digit is below this. 21 * 62^10 is below 2^64 - 2.
 const FITTING_FIRST: u64 = 21;
 
 impl<'s> Symbol<'s> {
@@ -203,8 +203,8 @@ impl<'s> Symbol<'s> {
         self.after_tag(place + 1, looks)
     }
 
-    /// Reads a disambiguator and returns it with the place after it. Returns 0 in its place if it is
-    /// not needed: it then gets no value.
+    /// Reads a disambiguator and returns it with the place after it. If it is not needed, it gets no
+    /// value, and 0 is returned in its place.
     ///
     /// # Errors
     ///
@@ -242,7 +242,7 @@ impl<'s> Symbol<'s> {
 
     /// Returns the place after the integer after a tag. Returns `Invalid` as `integer_after_tag`
     /// does.
-    // The function is separate for the same reason.
+    // It is separate for the same reason as `integer_after_tag`.
     #[inline(always)]
     fn after_tag(&self, place: usize, looks: &mut Looks) -> Result<usize, ParseError>
         ensures ok { IfOk result (λ j. (v : ℕ) × OneMore self.now place j v) }

@@ -47,9 +47,12 @@ impl<const N: usize> Parser<'_, N> {
 
     /// Reads the tag of a path, and starts the path one level deeper.
     ///
-    /// If `defers` is true, the tags of paths that are nested in one another are read together. No
-    /// frame is pushed for them before another path than a crate is in the innermost. The names of
-    /// the others are read and printed after that of the crate.
+    /// If `defers` is true, the tags of paths that are nested in one another are read together, up to
+    /// a namespace in upper case or until the stack is nearly full. If they end at a crate, the names
+    /// are read and printed after its own. Otherwise a frame is pushed for each of them.
+    ///
+    /// Fails if a part that it reads has an error, if the depth is used up, or if the output rejects
+    /// a piece.
     // Most paths are nested in two or three others, and their names need no steps of their own.
     #[inline(always)]
     pub(super) fn path<V: Output>(

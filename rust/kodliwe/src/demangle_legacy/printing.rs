@@ -46,7 +46,7 @@ fn put_unit<S: TextSink>(
 ) -> Result<(), SinkRefused> {
     match unit {
         Unit::Separator => out.put("::"),
-        // The size of such a text is a constant, so that it is copied by one store.
+        // The size of such a text is a constant, so one store copies it.
         Unit::Char(c) if c.is_ascii() => out.put(c.encode_utf8(&mut [0; 1])),
         Unit::Char(c) => out.put(c.encode_utf8(&mut [0; 4])),
         Unit::Run => symbol.span(bytes).write_to(out),

@@ -122,8 +122,9 @@ impl<'a> PrintedPrefix<'a> {
     }
 }
 
-/// Returns whether each step of a parse prints at most one token, and all steps print this text.
-fn steps_print(printed: PrintedPrefix<'_>, wanted: &str) -> bool {
+/// Returns whether all steps of a parse print this text. If nothing is deferred, each of them must
+/// print at most one token.
+fn print_by_steps(printed: PrintedPrefix<'_>, defers: bool, wanted: &str) -> bool {
     let symbol = Symbol::new(printed.inner);
     let mut looks = Looks::new();
     if !symbol.is_ascii(&mut looks) {
@@ -137,7 +138,7 @@ fn steps_print(printed: PrintedPrefix<'_>, wanted: &str) -> bool {
     let mut parser: Parser<FULL_STACK> = Parser::at_path(source, 0, &mut looks);
     let mut sink = CountingSink::new();
     for _ in 0..200_000 {
-        match continues_on(&mut parser, &mut sink) {
+        match continues_on(&mut parser, defers, &mut sink) {
             Some(false) => {}
             Some(true) => return sink.text.as_str() == wanted,
             None => return false,
@@ -146,9 +147,15 @@ fn steps_print(printed: PrintedPrefix<'_>, wanted: &str) -> bool {
     false
 }
 
-/// Does one step, or skips an impl path. Returns whether nothing was left to print, or `None` if
-/// the step printed more than one token or failed.
-fn continues_on(parser: &mut Parser<'_, FULL_STACK>, sink: &mut CountingSink) -> Option<bool> {
+/// Does one step, or skips an impl path. If `defers` is true, it does the steps of nested paths
+/// together. Returns whether nothing was left to print.
+///
+/// Returns `None` if a step failed, or if a single one printed more than one token.
+fn continues_on(
+    parser: &mut Parser<'_, FULL_STACK>,
+    defers: bool,
+    sink: &mut CountingSink,
+) -> Option<bool> {
     if parser.stack.len() >= FULL_STACK || sink.is_failed() {
         return None;
     }
@@ -168,16 +175,22 @@ fn continues_on(parser: &mut Parser<'_, FULL_STACK>, sink: &mut CountingSink) ->
         costs_of: 0,
         last: Token::Nothing,
     };
-    let Ok(next) = parser.steps(at, false, &mut output) else {
+    let Ok(next) = parser.steps(at, defers, &mut output) else {
         return None;
     };
     parser.continuation = next;
     let (costs_of, last) = (output.costs_of, output.last);
     let added = sink.text.as_str().get(from..)?;
-    if !is_of_one_step(costs_of, last, added, sink.pieces.saturating_sub(pieces)) {
+    if !defers && !is_of_one_step(costs_of, last, added, sink.pieces.saturating_sub(pieces)) {
         return None;
     }
     Some(false)
+}
+
+/// Returns whether all steps of a parse print this text, both one by one and with nested paths
+/// together.
+fn steps_print(printed: PrintedPrefix<'_>, wanted: &str) -> bool {
+    print_by_steps(printed, false, wanted) && print_by_steps(printed, true, wanted)
 }
 
 /// Returns whether the steps print the texts of each of these symbols, with the hash and without.
