@@ -145,9 +145,9 @@ fn may_end_path(path: &[u8]) -> bool {
     any
 }
 
-/// Returns whether a v0 run may be a complete symbol. Its third byte must be the tag of a path, and
-/// a path must be able to end at its first `.`, or else at its end. A symbol that was cut off
-/// probably ends within a name.
+/// Returns whether a v0 run may be a complete symbol. Its third byte must be the tag of a path that
+/// is not a reference. A path must be able to end at its first `.`, or else at its end. A symbol
+/// that was cut off probably ends within a name.
 #[inline(always)]
 fn may_be_complete(run: &[u8]) -> bool {
     let Some(b'C' | b'I' | b'M' | b'N' | b'X' | b'Y') = run.get(2) else {
