@@ -1,16 +1,20 @@
 #!/usr/bin/env python3
 """Measures the Rust crate that is made from the source, the published crate and the proved archive.
 
-It builds one program with all three, by `rust/`'s release profile, and prints two tables. The first has instructions, counted by
-`valgrind --tool=callgrind`, three rounds less one: of `try_demangle` and then `{}` for a v0 symbol of the Rust compiler's library and
-for a real legacy symbol of the corpus, and of `demangle_stream` for a line of a log. The archive's calls are `kodliwe_demangle` and
-`kodliwe_demangle_text`. The second has the nanoseconds of `try_demangle` and then `{}` over 40,000 v0 symbols.
+It builds one program with all three, by `rust/`'s release profile, and prints three tables. The first has instructions, counted by
+`valgrind --tool=callgrind`, three rounds less one: of `try_demangle`, and of `try_demangle` and then `{}`, for a v0 symbol of the Rust
+compiler's library and for a real legacy symbol of the corpus, and of `demangle_stream` for a line of a log. The archive's calls are
+`kodliwe_is_symbol`, `kodliwe_demangle` and `kodliwe_demangle_text`. The second has the nanoseconds of `try_demangle` and then `{}` over
+40,000 v0 symbols. The third has what a program costs that prints a path by `{:#}`, built by cargo's own profiles: the processor seconds of
+building it with its library, and the kilobytes of the stripped program above one that prints its arguments unchanged.
 
 Without --crate the published crate is that of Debian's package librust-rustc-demangle-dev, which has no streams. `make` builds the archive.
 """
 import argparse
 import glob
 import os
+import resource
+import shutil
 import subprocess
 import sys
 
@@ -21,6 +25,7 @@ import rust_clients
 
 NAMES = {"theirs": "published crate", "ours": "erased crate", "archive": "proved archive"}
 ROUNDS = 15
+BUILDS = 3
 
 
 def program(crate):
@@ -58,6 +63,36 @@ def head(what):
     print("| --- |" + " ---: |" * (len(NAMES) + 1), flush=True)
 
 
+def cost(which, library, profile):
+    """Builds the program of prints.rs anew, and returns the seconds that it took and the program's size."""
+    dependency = f'[dependencies]\nlibrary = {{ package = "rustc-demangle", path = "{library}" }}\n' if library else ""
+    source = os.path.join(ROOT, "bench", "crates", "prints.rs")
+    place = rust_clients.folder(f"prints_{which}", f'edition = "2021"\n\n[[bin]]\nname = "prints"\npath = "{source}"\n\n{dependency}')
+    target = os.path.join(place, "target")
+    best = None
+    for _ in range(BUILDS):
+        shutil.rmtree(target, ignore_errors=True)
+        before = resource.getrusage(resource.RUSAGE_CHILDREN).ru_utime
+        words = ["build", "--release"] if profile == "release" else ["build"]
+        rust_clients.common.cargo(place, *words, target=target, RUSTFLAGS="--cfg library" if library else "")
+        took = resource.getrusage(resource.RUSAGE_CHILDREN).ru_utime - before
+        best = took if best is None else min(best, took)
+    built_program = os.path.join(target, "release" if profile == "release" else "debug", "prints")
+    subprocess.run(["strip", built_program], check=True)
+    return best, os.path.getsize(built_program)
+
+
+def costs(crate):
+    """Prints the table of what a program that prints a path costs."""
+    libraries = {"theirs": crate, "ours": rust_clients.OURS, "none": None}
+    found = {which: {profile: cost(which, library, profile) for profile in ("dev", "release")} for which, library in libraries.items()}
+    head("a program with {:#}")
+    for profile in ("dev", "release"):
+        row(profile + " build, seconds", {which: found[which][profile][0] for which in ("theirs", "ours")}, "{:.1f}")
+    base = found["none"]["release"][1]
+    row("stripped, KB above none", {which: (found[which]["release"][1] - base) / 1024 for which in ("theirs", "ours")}, "{:.0f}")
+
+
 def main():
     parser = argparse.ArgumentParser(description=__doc__, formatter_class=argparse.RawDescriptionHelpFormatter)
     parser.add_argument("--crate", metavar="PATH", help="the source of the published crate rustc-demangle")
@@ -74,7 +109,9 @@ def main():
     print(subprocess.run(["rustc", "--version"], stdout=subprocess.PIPE, encoding="utf-8", check=True).stdout.strip())
     head("instructions")
     for name, found in (("v0", v0[::20]), ("legacy", real["legacy"])):
-        row("%s, %s symbols" % (name, "{:,}".format(len(found))), counted(command, "path", b"\n".join(found), len(found)), "{:,}")
+        for job, what in (("try", "`try_demangle`"), ("path", "and `{}`")):
+            told = "%s, %s symbols, %s" % (name, "{:,}".format(len(found)), what)
+            row(told, counted(command, job, b"\n".join(found), len(found)), "{:,}")
     lines = log.count(b"\n")
     row("a log, {:,} lines".format(lines), counted(command, "text", log, lines), "{:,}")
     said = subprocess.run([command, "time", str(ROUNDS)], input=b"\n".join(v0), stdout=subprocess.PIPE, check=True).stdout
@@ -82,6 +119,8 @@ def main():
     head("nanoseconds")
     times = dict(zip(("ours", "theirs", "archive"), map(float, said.split())))
     row("v0, {:,} symbols".format(len(v0)), times, "{:,.0f}")
+    print()
+    costs(crate)
 
 
 if __name__ == "__main__":

@@ -2,9 +2,9 @@
 """Runs demangle_filter and the other demanglers of this machine over symbols that are made to be costly.
 
 Each symbol is one line of standard input. It prints a Markdown table with a row for each symbol; for each program it has
-the seconds from start to end, the peak memory of the process (its greatest resident set) and the bytes that it wrote,
-or how it failed. A program is killed after the timeout. demangle_filter runs again with its
-stack limited. `make` builds it.
+the seconds from start to end, the peak memory of the process in megabytes (its greatest resident set) and the bytes that
+it wrote, or how it failed. A program is killed after the timeout. The table has one symbol of each kind, and all of them
+with --all. With --stack, demangle_filter runs again with its stack limited. `make` builds it.
 """
 import argparse, ctypes, os, signal, subprocess, tempfile, threading, time
 
@@ -17,6 +17,17 @@ START = '{ read -r go <gate; ulimit -S -s "$1"; shift; exec "$@" <given 2>/dev/n
 PR_SET_CHILD_SUBREAPER = 36
 # In kilobytes.
 USUAL_STACK = 8192
+# The rows without --all: one of each kind.
+SHOWN = (
+    "doubling, 18 tuples",
+    "doubling, 30 tuples",
+    "490 `R` and a back reference, 1,000 x",
+    "back reference into a name of 10^5 `R`, 1,000 x",
+    "`_RMC0` and 10^6 `R`",
+    "legacy, 10^6 elements",
+    "`_RMC0FG`, 10 `Z`, `_Eu`",
+    "10^6 times `_ZN1aE `",
+)
 
 
 class Run:
@@ -52,15 +63,14 @@ class Run:
 
     def cell(self):
         wrote = self.end or "{:,}".format(self.written)
-        return "{:.2f} s, {:.1f} MB, {}".format(self.seconds, self.kilobytes / 1024, wrote)
+        return "{:.2f}, {:.1f}, {}".format(self.seconds, self.kilobytes / 1024, wrote)
 
 
 def main():
     words = argparse.ArgumentParser(description=__doc__, formatter_class=argparse.RawDescriptionHelpFormatter)
     words.add_argument("--timeout", type=float, default=10, metavar="SECONDS", help="kill a program after so many seconds (default 10)")
-    words.add_argument(
-        "--stack", type=int, default=100, metavar="KILOBYTES", help="demangle_filter's stack in its second run (default 100)"
-    )
+    words.add_argument("--all", action="store_true", help="print a row for each symbol")
+    words.add_argument("--stack", type=int, metavar="KILOBYTES", help="run demangle_filter again with this stack")
     words.add_argument(
         "--also",
         type=further,
@@ -74,11 +84,14 @@ def main():
     # A program whose parent ends becomes a child of this process.
     ctypes.CDLL(None, use_errno=True).prctl(PR_SET_CHILD_SUBREAPER, 1, 0, 0, 0)
     programs = [("demangle_filter", [FILTER], USUAL_STACK)]
-    programs.append(("demangle_filter, %d KB of stack" % given.stack, [FILTER], given.stack))
+    if given.stack:
+        programs.append(("demangle_filter, %d KB of stack" % given.stack, [FILTER], given.stack))
     programs += [(name, program, USUAL_STACK) for name, program in list(others()) + given.also]
-    print("| symbol | " + " | ".join(name for name, _, _ in programs) + " |")
+    print("| seconds, MB, bytes | " + " | ".join(name for name, _, _ in programs) + " |")
     print("| --- |" + " ---: |" * len(programs))
     for case, symbol in hostile():
+        if not given.all and case not in SHOWN:
+            continue
         text = (symbol + "\n").encode()
         cells = [Run(program, text, given.timeout, stack).cell() for _, program, stack in programs]
         print("| " + " | ".join([case] + cells) + " |", flush=True)

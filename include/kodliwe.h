@@ -9,7 +9,10 @@
  * No call allocates, locks, does I/O, or touches a global, errno or thread-local data. So each may be made from any thread,
  * and in a signal handler.
  *
- * docs/C.md says which properties of the calls are proved. The caller must ensure the following:
+ * The library is built from one source with the Rattle kit or without it. kodliwe_version says which. With the kit, the calls
+ * are proved; docs/C.md says which properties. Without it, they are tested, not proved.
+ *
+ * The caller must ensure the following:
  *
  *   - symbol points to symbol_len bytes that can be read, and out to out_size bytes that can be read and written.
  *     Neither is NULL, even if its size is 0.
@@ -20,7 +23,7 @@
  *
  *   - The stack has room. 8 KiB suffice for every symbol that a compiler made: of 1,400 real ones, none made a call touch
  *     more than 5.6 KB. For a v0 symbol made to be deep, a call touches 14.5 KB. Such a symbol can be short: _RNvB_1a has
- *     8 bytes. For one that leaves over 512 productions open at once, a call touches up to 77.8 KB. If symbols come from
+ *     8 bytes. For one that leaves over 512 productions open at once, a call touches up to 80 KB. If symbols come from
  *     strangers, provide 96 KiB. The same holds for a handler with its own stack (sigaltstack; examples/backtrace.c).
  *
  *   - Time grows with the limit, not with out_size. If symbols may be hostile or time matters, as in a handler, call
@@ -32,16 +35,23 @@
 #include <stdbool.h>
 #include <stddef.h>
 
+/* A program for Windows that links with kodliwe.dll may define KODLIWE_DLL. Each call is then one jump shorter. */
+#if defined(_WIN32) && defined(KODLIWE_DLL)
+#define KODLIWE_API __declspec(dllimport)
+#else
+#define KODLIWE_API
+#endif
+
 #ifdef __cplusplus
 extern "C" {
 #endif
 
 /* Returns whether the bytes are a Rust symbol, after a suffix of ThinLTO (.llvm.) is removed. Prints nothing. */
-bool kodliwe_is_symbol(const char *symbol, size_t symbol_len);
+KODLIWE_API bool kodliwe_is_symbol(const char *symbol, size_t symbol_len);
 
 /* Returns the number of bytes of the symbol without a suffix of ThinLTO (.llvm.), or 0 if the bytes are not a Rust symbol.
  * Prints nothing. */
-size_t kodliwe_symbol_len(const char *symbol, size_t symbol_len);
+KODLIWE_API size_t kodliwe_symbol_len(const char *symbol, size_t symbol_len);
 
 /* Writes the path of a Rust symbol to out, as a C string.
  *
@@ -59,12 +69,12 @@ size_t kodliwe_symbol_len(const char *symbol, size_t symbol_len);
  * with {:#}, and so are the disambiguators of v0.
  *
  * A path is cut after at most 1,000,000 bytes. {size limit reached} and the symbol's suffix then follow. */
-size_t kodliwe_demangle(const char *symbol, size_t symbol_len, char *out, size_t out_size, bool include_hash);
+KODLIWE_API size_t kodliwe_demangle(const char *symbol, size_t symbol_len, char *out, size_t out_size, bool include_hash);
 
 /* Does the same with another limit: a path is cut after at most limit bytes, at the end of a piece of its text. A limit
  * above 1,000,000 counts as 1,000,000. The result is at most limit + 21 + symbol_len. */
-size_t kodliwe_demangle_limited(const char *symbol, size_t symbol_len, char *out, size_t out_size, bool include_hash,
-                                size_t limit);
+KODLIWE_API size_t kodliwe_demangle_limited(const char *symbol, size_t symbol_len, char *out, size_t out_size,
+                                            bool include_hash, size_t limit);
 
 /* Does the same for the bytes of the path from start. The rest of the path, or its first out_size - 1 bytes, and a NUL are
  * written to out. If start is at or after the path's end, out gets only the NUL. The result is the number for the whole path,
@@ -73,12 +83,12 @@ size_t kodliwe_demangle_limited(const char *symbol, size_t symbol_len, char *out
  *     for (start = 0; (size = kodliwe_demangle_part(s, len, part, sizeof part, false, limit, start)) > start + 1;
  *          start += sizeof part - 1)
  *         fputs(part, stdout); */
-size_t kodliwe_demangle_part(const char *symbol, size_t symbol_len, char *out, size_t out_size, bool include_hash,
-                             size_t limit, size_t start);
+KODLIWE_API size_t kodliwe_demangle_part(const char *symbol, size_t symbol_len, char *out, size_t out_size, bool include_hash,
+                                         size_t limit, size_t start);
 
 /* Returns the number of bytes of the symbol before its suffix and before a suffix of ThinLTO. Returns 0 if the bytes are not
  * a Rust symbol. Prints nothing. */
-size_t kodliwe_path_len(const char *symbol, size_t symbol_len);
+KODLIWE_API size_t kodliwe_path_len(const char *symbol, size_t symbol_len);
 
 /* Writes and returns the same as kodliwe_demangle_part, without searching again for the end of the path. The argument
  * path_len is the nonzero result of kodliwe_path_len for the same bytes. A v0 symbol is then read once for each path that
@@ -86,31 +96,40 @@ size_t kodliwe_path_len(const char *symbol, size_t symbol_len);
  *
  * With other bytes or another number, the call still returns. It reads and writes nothing outside the two ranges, and the
  * result is at most limit + 21 + symbol_len. The contents of out are then unspecified. */
-size_t kodliwe_print_part(const char *symbol, size_t symbol_len, size_t path_len, char *out, size_t out_size,
-                          bool include_hash, size_t limit, size_t start);
+KODLIWE_API size_t kodliwe_print_part(const char *symbol, size_t symbol_len, size_t path_len, char *out, size_t out_size,
+                                      bool include_hash, size_t limit, size_t start);
 
 /* Does the same as kodliwe_demangle_limited, with _ for each list of generic arguments: foo::bar::<_> for every foo::bar. So all
  * instances of a generic function have one name. Only v0 symbols are folded, because the arguments of a legacy symbol are parts
  * of names. The result is at most limit + 21 + symbol_len. */
-size_t kodliwe_demangle_folded(const char *symbol, size_t symbol_len, char *out, size_t out_size, bool include_hash,
-                               size_t limit);
+KODLIWE_API size_t kodliwe_demangle_folded(const char *symbol, size_t symbol_len, char *out, size_t out_size,
+                                           bool include_hash, size_t limit);
 
 /* Writes a text to out, as a C string, with each Rust symbol in it replaced by its path. The text may be a line of a log, a
  * backtrace or a whole file, and the call may be made in a handler. The text is any bytes. Bytes outside symbols stay
  * unchanged.
  *
  * A candidate symbol starts at _ZN or _R. It ends before the next byte that is not an ASCII letter, a digit, $, . or _. Its
- * path is cut as by kodliwe_demangle_limited.
+ * path is cut as by kodliwe_demangle_limited. After a letter or a digit it stays: SW_RC0.zip is no symbol. A single _ before
+ * a symbol, as macOS has it, is replaced with it, if the _ is the first byte or follows one that no symbol may have.
  *
  * Returns the number of bytes of the whole new text and its NUL, whatever out_size is. It writes as much of the text to out
  * as kodliwe_demangle does of a path. The result is never 0. It is SIZE_MAX if a size_t cannot hold the number, which needs
  * a text of 10^13 bytes. The contents of out are then unspecified. */
-size_t kodliwe_demangle_text(const char *text, size_t text_len, char *out, size_t out_size, bool include_hash,
-                             size_t limit);
+KODLIWE_API size_t kodliwe_demangle_text(const char *text, size_t text_len, char *out, size_t out_size, bool include_hash,
+                                         size_t limit);
 
 /* Does the same with _ for each list of generic arguments, as kodliwe_demangle_folded does. */
-size_t kodliwe_demangle_text_folded(const char *text, size_t text_len, char *out, size_t out_size, bool include_hash,
-                                    size_t limit);
+KODLIWE_API size_t kodliwe_demangle_text_folded(const char *text, size_t text_len, char *out, size_t out_size,
+                                                bool include_hash, size_t limit);
+
+/* Writes the name and the version of the library to out, as a C string, and how it was built:
+ *
+ *     kodliwe 0.1.0, proved with Rattle
+ *     kodliwe 0.1.0, tested, not proved
+ *
+ * Returns the number of bytes of this text and its NUL, and writes as much of it to out as kodliwe_demangle does of a path. */
+KODLIWE_API size_t kodliwe_version(char *out, size_t out_size);
 
 #ifdef __cplusplus
 }

@@ -4,7 +4,7 @@
 It builds a program over the crate outside the repository, and runs it for each symbol of the lines of five columns and of
 `\\pieces`. It reports each line that differs. Lines of `\\limit` are omitted, since the crate has one limit. The crate is Debian's
 librust-rustc-demangle-dev, 0.1.21, or that of --crate. From line 801 on, the answers come from a crate with two changes
-(docs/CORPUS.md), so 37 lines differ from 0.1.28. CHANGED has how many differ from each release, and why. The last line is
+(tests/README.md), so 37 lines differ from 0.1.28. CHANGED has how many differ from each release, and why. The last line is
 'N passed, N failed', and those lines count as passed.
 """
 import argparse, hashlib, os, re, subprocess, sys, tempfile

@@ -4,6 +4,7 @@ import re
 import shutil
 import subprocess
 import sys
+import threading
 import traceback
 
 ROOT = os.path.dirname(os.path.dirname(os.path.abspath(__file__)))
@@ -15,6 +16,8 @@ KODLIWE = os.path.join(BUILD, "kodliwe")
 FILTER = os.path.join(BUILD, "demangle_filter")
 ARCHIVE = os.path.join(BUILD, "libkodliwe.a")
 SHARED = os.path.join(BUILD, "libkodliwe.so.0.1.0")
+# `make KIT=none` builds the same here, with cargo and without proofs.
+NONE = os.path.join(ROOT, "out", "none", "build")
 # The workspace of the Rust crates that packaging/crate makes.
 RUST = os.path.join(ROOT, "rust")
 
@@ -36,6 +39,37 @@ def built(path):
     if not os.path.exists(path):
         raise Lacking("no %s: `make` builds it" % os.path.relpath(path, ROOT))
     return path
+
+
+class Library:
+    """The library for C of one build: `proved` by `make`, or `tested`, which `make KIT=none` makes of rust/ with cargo."""
+
+    KINDS = ("proved", "tested")
+
+    def __init__(self, kind):
+        self.kind, self.folder = kind, BUILD if kind == "proved" else NONE
+        self.archive = os.path.join(self.folder, os.path.basename(ARCHIVE))
+        self.shared = os.path.join(self.folder, os.path.basename(SHARED))
+        self.version = "kodliwe 0.1.0, " + ("proved with Rattle" if kind == "proved" else "tested, not proved")
+
+    def made(self):
+        """Builds the tested library if it is not up to date. The proved one has to be there."""
+        if self.kind == "tested":
+            env = {name: value for name, value in os.environ.items() if name not in ("MAKEFLAGS", "MFLAGS", "MAKELEVEL")}
+            run(["make", "--no-print-directory", "KIT=none", "libraries"], cwd=ROOT, env=env, stdin=subprocess.DEVNULL)
+        built(self.archive), built(self.shared)
+
+
+def add_libraries(parser):
+    """Adds the option that names the libraries, by default both."""
+    parser.add_argument("--library", choices=Library.KINDS, help="try this library alone; by default both are tried")
+
+
+def declared_calls():
+    """Returns the functions of the headers."""
+    with open(os.path.join(INCLUDE, "kodliwe.h"), encoding="utf-8") as file:
+        found = re.findall(r"^KODLIWE_API \w+ (kodliwe_\w+)\(", file.read(), re.M)
+    return sorted([*found, "rustc_demangle"])
 
 
 def run(command, **more):
@@ -60,10 +94,10 @@ def same(found, wanted):
 
 
 class Tally:
-    """Runs the parts of a suite, prints a line for each, and counts them."""
+    """Runs the parts of a suite, prints a line for each, and counts them. Threads may share it."""
 
     def __init__(self, only=()):
-        self.only = only
+        self.only, self.lock = only, threading.Lock()
         self.passed = self.failed = 0
 
     def step(self, name, call, *arguments):
@@ -83,9 +117,10 @@ class Tally:
 
     def count(self, name, is_well, told=None):
         """Counts one part and prints its line."""
-        self.passed += is_well
-        self.failed += not is_well
-        print("%s: %s%s" % (name, "ok" if is_well else "FAILED", ", %s" % told if told else ""), flush=True)
+        with self.lock:
+            self.passed += is_well
+            self.failed += not is_well
+            print("%s: %s%s" % (name, "ok" if is_well else "FAILED", ", %s" % told if told else ""), flush=True)
 
     def end(self):
         """Prints 'N passed, N failed' and returns the status. A suite that ran nothing fails."""

@@ -5,20 +5,24 @@ usage: crate.py [STEP..]
 
   same        rust/ is what packaging/crate/erase.py makes of the source
   tests       the repository's tests, erased, and the crate's own: in debug and release, without std
-  lints       cargo fmt, clippy and doc report nothing
+  lints       cargo fmt, clippy and doc report nothing; no lint is off but `unsafe_code`, in the modules that need it
   corpus      the stored answers, pieces and limits of crates/demangle_corpus/stdin
   damaged     50,000 damaged symbols, by calls and by both programs, against stored digests
   programs    both programs on the inputs that are stored next to their sources
+  filter      tests/filter.py over the program demangle_filter; tests/program.py tries kodliwe itself
   characters  the table of characters has the same entry for each of 1,114,112 code points as the kit's crate
+  interface   the public items and their signatures are those of tests/crate/interface.txt
   no_std      a static library without std needs at most five functions of C and a 128-bit division
-  package     `cargo package` makes both .crate files, with their licences
+  package     `cargo package` makes the .crate files, with their licences, and builds each from its own
 
 It needs cargo, a C compiler, `nm` and, for `characters`, the Rattle kit. Work is done in out/crate.
 """
 
 import filecmp
+import html
 import os
 import re
+import shutil
 import subprocess
 import sys
 import tarfile
@@ -30,6 +34,10 @@ from rust_common import OUT, cargo, check
 
 RELEASE = os.path.join(OUT, "target", "release")
 LICENCES = {"LICENSE", "LICENSE-MIT-rustc-demangle", "LICENSE-APACHE-rustc-demangle"}
+# The packages that are made from the source, and those that are libraries.
+ERASED = ("kodliwe", "kodliwe-cli")
+LIBRARIES = ("--package", "kodliwe", "--package", "rustc-demangle")
+INTERFACE = os.path.join(common.HERE, "interface.txt")
 
 
 def files_of(folder):
@@ -53,8 +61,7 @@ def check_same():
 
 def tests_in_source():
     """Counts the tests of the source that can be erased."""
-    names = os.listdir(os.path.join(RUST, "kodliwe", "src"))
-    names += os.listdir(os.path.join(RUST, "kodliwe", "src", "bin"))
+    names = {name for package in ERASED for name in os.listdir(os.path.join(RUST, package, "src"))}
     counts = {}
     for name in names:
         for place, _, files in os.walk(os.path.join(ROOT, "crates", name, "src")):
@@ -74,7 +81,8 @@ def count_passed(said):
 
 def check_tests(rust=RUST):
     wanted = tests_in_source()
-    said = cargo(rust, "test", "--package", "kodliwe", "--lib", "--bins", "--all-features")
+    packages = [word for package in ERASED for word in ("--package", package)]
+    said = cargo(rust, "test", *packages, "--lib", "--all-features", "--", "--skip", "support::tests")
     erased = count_passed(said)
     check(wanted > 150 and erased == wanted, f"{erased} tests were run, the source has {wanted}")
     debug = count_passed(cargo(rust, "test", "--workspace", "--all-features", "--no-fail-fast"))
@@ -82,7 +90,7 @@ def check_tests(rust=RUST):
     quick = {"CARGO_PROFILE_RELEASE_LTO": "off", "CARGO_PROFILE_RELEASE_CODEGEN_UNITS": "16"}
     words = ["test", "--workspace", "--all-features", "--release"]
     release = count_passed(cargo(rust, *words, target=os.path.join(OUT, "quick"), **quick))
-    without = count_passed(cargo(rust, "test", "--workspace", "--no-default-features"))
+    without = count_passed(cargo(rust, "test", *LIBRARIES, "--no-default-features"))
     check(debug == release > erased and without > 20, f"{debug}, {release} and {without} tests")
     return (
         f"all {erased} tests of the source that can be erased pass; with the crate's own and those "
@@ -92,11 +100,14 @@ def check_tests(rust=RUST):
 
 def check_lints(rust=RUST):
     cargo(rust, "fmt", "--all", "--check")
-    for words in (["--all-targets", "--all-features"], ["--no-default-features"]):
-        cargo(rust, "clippy", "--workspace", *words, "--", "-D", "warnings")
-    cargo(rust, "doc", "--workspace", "--no-deps", "--all-features", RUSTDOCFLAGS="-D warnings")
-    cargo(rust, "doc", "--workspace", "--no-deps", "--no-default-features", RUSTDOCFLAGS="-D warnings")
-    return "cargo fmt, clippy and doc have nothing to say, with and without std"
+    for words in (["--workspace", "--all-features"], LIBRARIES, [*LIBRARIES, "--no-default-features"]):
+        cargo(rust, "clippy", *words, "--all-targets", "--", "-D", "warnings", "-D", "clippy::undocumented_unsafe_blocks")
+        cargo(rust, "doc", *words, "--no-deps", RUSTDOCFLAGS="-D warnings")
+    files = [name for name in files_of(rust) if re.search(r"/src/.*\.rs$", name)]
+    for name in files:
+        with open(os.path.join(rust, name), encoding="utf-8") as file:
+            check(not re.search(r"#!?\[(cfg_attr.*)?\b(allow|expect)\((?!unsafe_code\))", file.read()), f"{name} switches a lint off")
+    return f"cargo fmt, clippy and doc have nothing to say, with each set of features; no lint is off in {len(files)} files"
 
 
 def compare_corpus(words):
@@ -122,6 +133,14 @@ def check_corpus(rust=RUST):
     return f"{rows} stored rows: status, as_str, both forms, pieces and limits"
 
 
+def as_filter(symbol, line, filtered):
+    """Returns the line of demangle_filter, if that of kodliwe differs only because of the bytes before the run."""
+    before = re.split(rb"_(?:ZN|R)", symbol, maxsplit=1)[0]
+    if line == symbol and before[-1:].isalnum():
+        return filtered
+    return b"_" + line if before == b"_" and line != symbol else line
+
+
 def check_damaged(rust=RUST):
     symbols = common.damaged_symbols()
     with open(os.path.join(common.HERE, "damaged.txt"), encoding="ascii") as file:
@@ -134,6 +153,7 @@ def check_damaged(rust=RUST):
     for words in (["demangle_filter"], ["demangle_filter", "--no-hash"], ["kodliwe"]):
         program = os.path.join(RELEASE, words[0])
         outputs.append(run([program, *words[1:]], input=text).split(b"\n")[:-1])
+    outputs[-1] = [as_filter(*lines) for lines in zip(symbols, outputs[-1], outputs[-2])]
     check(all(len(lines) == len(symbols) for lines in outputs), "a symbol has not one line")
     found = [list(row) for row in zip(*map(common.digests, outputs))]
     wanted = [[lines, plain, alt, alt] for lines, plain, alt in stored]
@@ -158,6 +178,14 @@ def check_programs():
     return "kodliwe and demangle_filter write what is stored beside their sources"
 
 
+def check_filter():
+    cargo(RUST, "build", "--release")
+    command = [sys.executable, os.path.join(ROOT, "tests", "filter.py"), "--program", os.path.join(RELEASE, "demangle_filter")]
+    said = subprocess.run(command, check=False, stdout=subprocess.PIPE, encoding="utf-8").stdout
+    check(said.endswith(" passed, 0 failed\n"), said[-2500:])
+    return said.splitlines()[-1]
+
+
 def letters_of_kit():
     """Returns what the kit's crate says of each code point, by the program of the repository."""
     place = os.path.join(ROOT, "crates", "character_tables")
@@ -168,10 +196,44 @@ def letters_of_kit():
 def check_characters(rust=RUST):
     theirs = letters_of_kit()
     check(len(theirs) == 0x110000 and len(set(theirs)) > 8, f"{len(theirs)} letters of the kit")
-    ours = run([common.answers_program(rust), "characters"])
+    folder = common.package(
+        "characters",
+        f'[lib]\nname = "unicode"\npath = "{rust}/kodliwe/src/support/unicode/mod.rs"\n\n'
+        f'[[bin]]\nname = "characters"\npath = "{common.HERE}/characters.rs"\n',
+    )
+    cargo(folder, "build", "--release")
+    ours = run([os.path.join(RELEASE, "characters")], stdin=subprocess.DEVNULL)
     wrong = [at for at, (one, other) in enumerate(zip(ours, theirs)) if one != other]
     check(len(ours) == len(theirs) and not wrong, f"{len(wrong)} code points, as U+{wrong[:1]}")
     return f"{len(ours):,} code points are as in the kit's crate"
+
+
+def without_tags(text):
+    return " ".join(html.unescape(re.sub(r"<[^>]*>", "", text)).split())
+
+
+def interface_of(folder):
+    """Returns the lines that rustdoc's pages of a crate have for its items, methods and traits."""
+    lines = []
+    for name in sorted(files_of(folder)):
+        kind = re.match(r"(struct|enum|trait|fn|constant|type|macro)\.", os.path.basename(name))
+        if kind is None:
+            continue
+        with open(os.path.join(folder, name), encoding="utf-8") as file:
+            page = file.read().split('id="synthetic-implementations"')[0].split('id="blanket-implementations"')[0]
+        found = re.findall(r'<pre class="rust item-decl">(.*?)</pre>|<h[34] class="code-header">(.*?)</h[34]>', page, re.S)
+        lines += [f"{name[:-5]}: {without_tags(declared or header)}" for declared, header in found]
+    return sorted(set(lines))
+
+
+def check_interface(rust=RUST):
+    cargo(rust, "doc", *LIBRARIES, "--no-deps", "--all-features")
+    lines = [line for name in ("kodliwe", "rustc_demangle") for line in interface_of(os.path.join(OUT, "target", "doc", name))]
+    with open(INTERFACE, encoding="utf-8") as file:
+        stored = file.read().splitlines()
+    new, gone = [line for line in lines if line not in stored], [line for line in stored if line not in lines]
+    check(len(lines) > 60 and not new + gone, f"write it to {INTERFACE}: new {new[:5]}, gone {gone[:5]}")
+    return f"{len(lines)} items, methods and traits are as stored"
 
 
 def check_no_std(rust=RUST):
@@ -206,10 +268,14 @@ def undefined_of(archive):
 
 def check_package():
     target = os.path.join(OUT, "package")
-    cargo(RUST, "package", "--workspace", "--allow-dirty", "--offline", target=target)
+    shutil.rmtree(target, ignore_errors=True)
+    # In another home of cargo, a package is built over the one below it as an earlier run packed that.
+    home = os.path.join(target, "home")
+    cargo(RUST, "package", "--workspace", "--allow-dirty", "--offline", target=target, CARGO_HOME=home)
     counts = []
     for name, licences in (
         ("kodliwe-0.1.0", LICENCES | {"LICENSE-UNICODE"}),
+        ("kodliwe-cli-0.1.0", LICENCES),
         ("rustc-demangle-0.1.28", LICENCES),
     ):
         with tarfile.open(os.path.join(target, "package", name + ".crate")) as file:
@@ -227,7 +293,9 @@ CHECKS = [
     ("corpus", check_corpus),
     ("damaged", check_damaged),
     ("programs", check_programs),
+    ("filter", check_filter),
     ("characters", check_characters),
+    ("interface", check_interface),
     ("no_std", check_no_std),
     ("package", check_package),
 ]

@@ -24,6 +24,7 @@ from rust_common import OUT, check
 
 HERE = os.path.dirname(os.path.abspath(__file__))
 sys.path.insert(0, os.path.join(HERE, "..", "packaging", "crate"))
+import modules  # noqa: E402
 import rattle_tokens  # noqa: E402
 import rules  # noqa: E402
 
@@ -42,7 +43,9 @@ def cases(name):
 
 def erased(text):
     """Returns the erased text, with each run of spaces as one space."""
-    tokens = rules.erase(text, set())
+    module = modules.Module("package", ("krate",), "krate.rt", text)
+    modules.erase_modules([module])
+    tokens = [*module.head, *module.tokens]
     rules.refuse_left_overs(tokens)
     return re.sub(r"\s+", " ", "".join(token.text for token in tokens)).strip()
 
@@ -57,7 +60,7 @@ def check_constructs():
         wanted = re.sub(r"\s+", " ", wanted)
         check(found == wanted, f"{title}:\n{found}\nand not\n{wanted}")
         count += 1
-    check(count > 20, f"{count} constructs")
+    check(count > 45, f"{count} constructs")
     return f"{count} constructs become what they are to become"
 
 
@@ -82,7 +85,7 @@ def copy_of_source(folder, edits=()):
     os.makedirs(folder)
     for name in ("crates.txt", *[name for name in os.listdir(ROOT) if name.startswith("LICENSE")]):
         shutil.copy(os.path.join(ROOT, name), folder)
-    ignored = shutil.ignore_patterns("out", "proofs", "specs", "must-fail", "stdin", "data")
+    ignored = shutil.ignore_patterns("out", "proofs", "specs", "must-fail", "edits", "stdin", "data")
     shutil.copytree(os.path.join(ROOT, "crates"), os.path.join(folder, "crates"), ignore=ignored)
     shutil.copytree(os.path.join(ROOT, "packaging", "crate"), os.path.join(folder, "packaging", "crate"))
     for file, old, new in edits:
@@ -117,19 +120,19 @@ def check_source():
 
 
 def build_without_std(rust):
-    common.cargo(rust, "check", "--lib", "--no-default-features", target=TARGET)
+    common.cargo(rust, "check", "--package", "kodliwe", "--no-default-features", target=TARGET)
 
 
 def build(rust):
-    common.cargo(rust, "check", "--all-features", target=TARGET)
+    common.cargo(rust, "check", "--workspace", "--all-features", target=TARGET)
 
 
 def support_tests(rust):
-    common.cargo(rust, "test", "--package", "kodliwe", "--test", "support", target=TARGET)
+    common.cargo(rust, "test", "--package", "kodliwe", "--lib", "support::tests", target=TARGET)
 
 
 def library_tests(rust):
-    common.cargo(rust, "test", "--package", "kodliwe", "--lib", target=TARGET)
+    common.cargo(rust, "test", "--package", "kodliwe", "--lib", "--all-features", target=TARGET)
 
 
 # What is edited, the old text, the new one, and the check that has to fail.
@@ -147,32 +150,32 @@ FAULTS = {
         build,
     ),
     "a search for a byte misses the last one": (
-        "packaging/crate/template/kodliwe/src/support/memchr.rs",
+        "packaging/crate/template/support/memchr.rs",
         "text[at..].iter()",
         "text[at..text.len().max(at + 1) - 1].iter()",
         support_tests,
     ),
     "a search for a byte leaves out what follows the last group": (
-        "packaging/crate/template/kodliwe/src/support/memchr.rs",
+        "packaging/crate/template/support/memchr.rs",
         "text.last_chunk()",
         "text.first_chunk()",
         support_tests,
     ),
     "a search from the end leaves out what comes before the first group": (
-        "packaging/crate/template/kodliwe/src/support/memchr.rs",
+        "packaging/crate/template/support/memchr.rs",
         "text.first_chunk()",
         "text.last_chunk()",
         support_tests,
     ),
     "a search for a byte stops at a byte that is near": (
-        "packaging/crate/template/kodliwe/src/support/memchr.rs",
+        "packaging/crate/template/support/memchr.rs",
         "& !difference",
         "",
         support_tests,
     ),
     "a `cfg` is lost": (
         "packaging/crate/modules.py",
-        "        if (*path, child) in gated:\n",
+        "        if place in gated:\n",
         "        if False:\n",
         build_without_std,
     ),
@@ -181,6 +184,18 @@ FAULTS = {
         '    ("assert_eq!($h;", "assert_eq!("),\n',
         '    ("assert_eq!($h;", "assert_ne!("),\n',
         library_tests,
+    ),
+    "an item that is used is dropped": (
+        "packaging/crate/unused.py",
+        "all(use.is_dead() for use in self.uses_of(named))",
+        "any(use.is_dead() for use in self.uses_of(named))",
+        build,
+    ),
+    "an argument that is no ghost is dropped": (
+        "packaging/crate/ghosts.py",
+        "            return words[0].text in self.names\n",
+        "            return True\n",
+        build,
     ),
     "the table of characters has one run less": (
         "crates/character_tables/stdout",

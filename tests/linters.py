@@ -103,12 +103,26 @@ def check_c():
 
 def check_believed():
     """Compares the list of believed definitions in docs/GUARANTEES.md with the clauses."""
-    run([sys.executable, "docs/believed.py"], cwd=ROOT)
+    run([sys.executable, "tests/believed.py"], cwd=ROOT)
 
 
 def check_edits():
     """Looks for must-fail edits that name no clause."""
     return run([sys.executable, "tests/edits.py"], cwd=ROOT).decode().strip()
+
+
+def check_embedded():
+    """Compares the texts that the program has with docs/kodliwe.1 and completions/."""
+    run([sys.executable, "packaging/embed", "--check"], cwd=ROOT)
+
+
+def check_figures():
+    """Compares the tables of docs/PERFORMANCE.md with their sums, and names those that are older than what they measure."""
+    sys.path.append(os.path.join(ROOT, "bench"))
+    import write
+
+    older = write.check()
+    return "older than their sources: %s" % ", ".join(older) if older else "all of today's sources"
 
 
 def main():
@@ -123,6 +137,8 @@ def main():
     tally.step("gcc, g++", check_c)
     tally.step("believed definitions", check_believed)
     tally.step("clauses of edits", check_edits)
+    tally.step("embedded texts", check_embedded)
+    tally.step("measured tables", check_figures)
     return tally.end()
 
 

@@ -1,12 +1,13 @@
 #!/usr/bin/env python3
 """Installs and packs Kodliwe in new folders, and tries the installed files as a new user would.
 
-It takes what `make` built, and prints a line for each of these:
+It takes what `make` built, and what `make KIT=none` builds, and prints a line for each of these:
 
   installed   `make install` into an empty folder: the files, and nothing else
   settings    examples/paths.c, built and run with the two variables that `make install` prints
   documents   each link of an installed document leads to an installed file, or to the web
   exports     the shared library's name, and that it exports only the calls of the headers
+  said        kodliwe.pc, kodliwe_version, `kodliwe -V` and the package say how it was built: proved, or tested, not proved
   c, static   examples/paths.c by `gcc $(pkg-config ..)`, over the shared library and over the archive
   loaded      rustc_demangle, found by its name in the loaded library
   rust        a Rust program that calls the archive, which pkg-config finds
@@ -21,29 +22,17 @@ It takes what `make` built, and prints a line for each of these:
   untracked   nothing in the repository that git does not know
 
   tree        installed and run in a fresh bookworm tree of debootstrap (with --tree)
+  choice      without the kit and without KIT, `make` says in one line what both choices are
 
 The last line is 'N passed, N failed'. A missing tool is a failure.
 """
-import argparse, glob, hashlib, os, re, shutil, sys, tempfile
+import argparse, glob, hashlib, os, re, shutil, subprocess, sys, tempfile
 
 import common
-from common import ROOT, Lacking, Tally, tool
+from common import ROOT, Lacking, Library, Tally, add_libraries, declared_calls, tool
 
-DIST = os.path.join(ROOT, "out", "dist")
 SYMBOL, PATH = "_ZN3foo17h05af221e174051e9E", "foo"
-CALLS = {
-    "kodliwe_demangle",
-    "kodliwe_demangle_folded",
-    "kodliwe_demangle_limited",
-    "kodliwe_demangle_part",
-    "kodliwe_demangle_text",
-    "kodliwe_demangle_text_folded",
-    "kodliwe_is_symbol",
-    "kodliwe_path_len",
-    "kodliwe_print_part",
-    "kodliwe_symbol_len",
-    "rustc_demangle",
-}
+CALLS = set(declared_calls())
 LOADING = """
 #include <dlfcn.h>
 #include <stdio.h>
@@ -52,6 +41,9 @@ int main(int count, char **words) {
     int (*call)(const char *, char *, size_t) = library ? (int (*)(const char *, char *, size_t))dlsym(library, "rustc_demangle") : 0;
     char path[64];
     if (!call || call(words[2], path, sizeof path) != 1) return 1;
+    puts(path);
+    size_t (*version)(char *, size_t) = (size_t (*)(char *, size_t))dlsym(library, "kodliwe_version");
+    if (!version || version(path, sizeof path) > sizeof path) return 1;
     puts(path);
     return count != 3;
 }
@@ -124,10 +116,10 @@ def equal(found, expected):
 
 
 class Installed:
-    """A tree that was installed, and a folder to work in."""
+    """A tree that was installed, and a folder to work in. Its library is of a kind, proved or tested."""
 
-    def __init__(self, tree, work, lib="lib"):
-        self.tree, self.work, self.lib = tree, work, os.path.join(tree, lib)
+    def __init__(self, tree, work, library, lib="lib"):
+        self.tree, self.work, self.library, self.lib = tree, work, library, os.path.join(tree, lib)
         self.env = dict(os.environ, PKG_CONFIG_PATH=os.path.join(self.lib, "pkgconfig"), LD_LIBRARY_PATH=self.lib)
 
     def flags(self, *more):
@@ -156,7 +148,14 @@ class Installed:
         with open(source, "w") as file:
             file.write(LOADING)
         run([tool("gcc"), source, "-o", built, "-ldl"])
-        equal(run([built, os.path.join(self.lib, "libkodliwe.so.0"), SYMBOL]), PATH + "\n")
+        equal(run([built, os.path.join(self.lib, "libkodliwe.so.0"), SYMBOL]), "%s\n%s\n" % (PATH, self.library.version))
+
+    def said(self):
+        how = self.library.version.partition(", ")[2]
+        with open(os.path.join(self.lib, "pkgconfig", "kodliwe.pc"), encoding="utf-8") as file:
+            equal(re.findall(r"^Description: .* \((.*)\)$", file.read(), re.M), [how])
+        said = run([os.path.join(self.tree, "bin", "kodliwe"), "-V"])
+        equal(("not proved" in said, "Proved with Rattle" in said), (self.library.kind == "tested", self.library.kind == "proved"))
 
     def rust(self):
         """A Rust program that declares a call of the header, and finds the archive by pkg-config."""
@@ -176,7 +175,7 @@ class Installed:
         place, copied = os.path.join(self.work, "environment"), os.path.join(self.work, "python")
         shutil.copytree(folder, copied, ignore=shutil.ignore_patterns("__pycache__", "build", "*.egg-info"), dirs_exist_ok=True)
         run([sys.executable, "-m", "venv", "--system-site-packages", place])
-        run([os.path.join(place, "bin", "pip"), "install", "--quiet", "--no-index", "--no-build-isolation", copied])
+        run([os.path.join(place, "bin", "pip"), "install", "--quiet", "--no-index", "--no-build-isolation", copied], env=env)
         env = dict(self.env, KODLIWE_LIB=os.path.join(self.lib, "libkodliwe.so.0"))
         equal(run([os.path.join(place, "bin", "python")] + words, env=env, cwd=self.work), PATH + "\n")
 
@@ -216,6 +215,7 @@ class Installed:
         return [
             ("documents", self.documents),
             ("exports", self.exports),
+            ("said", self.said),
             ("c", self.c),
             ("static", self.static),
             ("loaded", self.loaded),
@@ -235,19 +235,24 @@ def sums(folder):
     }
 
 
-def package(work):
+def package(work, library):
     """The Debian package: lintian, installed, tried, removed."""
-    found = glob.glob(os.path.join(DIST, "*.deb"))
+    found = glob.glob(os.path.join(library.dist, "*.deb"))
     equal(len(found), 1)
     run([tool("lintian"), "--fail-on", "error"] + found)
-    equal(re.findall(r"Depends: (\w+) \(", run([tool("dpkg-deb"), "-I"] + found)), ["libc6"])
+    about = run([tool("dpkg-deb"), "-I"] + found)
+    # A program of cargo unwinds its stack by a library.
+    wanted = ["libc6"] if library.kind == "proved" else ["libc6", "libgcc-s1"]
+    equal(re.findall(r"[\w-]+", re.sub(r"\(.*?\)", "", re.search(r"Depends: (.*)", about)[1])), wanted)
+    if library.kind == "tested":
+        equal(("tested, not proved" in about, "proved for" in about), (True, False))
     if os.geteuid() != 0:
         raise Lacking("root, to install the package")
     if os.path.exists("/usr/bin/kodliwe"):
         raise AssertionError("kodliwe is installed on this machine already")
     run(["dpkg", "-i"] + found)
     try:
-        tree = Installed("/usr", work, "lib/x86_64-linux-gnu")
+        tree = Installed("/usr", work, library, "lib/x86_64-linux-gnu")
         tree.env = {name: value for name, value in tree.env.items() if name not in ("PKG_CONFIG_PATH", "LD_LIBRARY_PATH")}
         for name, part in tree.parts():
             # The system's zsh looks elsewhere, and a container may leave manuals out.
@@ -259,11 +264,11 @@ def package(work):
     equal(os.path.exists("/usr/bin/kodliwe"), False)
 
 
-def fresh_tree(work):
+def fresh_tree(work, library):
     """Installs the package in an empty bookworm tree, and runs what it has there."""
     if os.geteuid() != 0:
         raise Lacking("root is needed, to make a tree of debootstrap")
-    root, (package,) = os.path.join(work, "root"), glob.glob(os.path.join(DIST, "*.deb"))
+    root, (package,) = os.path.join(work, "root"), glob.glob(os.path.join(library.dist, "*.deb"))
     # The mirror is the one that this machine's apt reads.
     listed = run([tool("apt-get"), "indextargets", "--format", "$(CODENAME) $(SITE)"]).split("\n")
     mirrors = [line.split()[1] for line in listed if line.startswith("bookworm ")]
@@ -280,6 +285,90 @@ def excluded():
     return any("/usr/share/man" in open(place).read() for place in glob.glob("/etc/dpkg/dpkg.cfg.d/*"))
 
 
+def choice(work):
+    """In a folder with nothing built, and without `rt` on the PATH."""
+    copy = os.path.join(work, "unbuilt")
+    run(["git", "clone", "--quiet", ROOT, copy])
+    shutil.copy(os.path.join(ROOT, "Makefile"), copy)
+    env = {name: value for name, value in os.environ.items() if name not in ("MAKEFLAGS", "MFLAGS", "KIT")}
+    env["PATH"] = os.pathsep.join(place for place in env["PATH"].split(os.pathsep) if not os.path.exists(os.path.join(place, "rt")))
+    for words in ([], ["install", "PREFIX=" + os.path.join(work, "nowhere")], ["dist"]):
+        ran = subprocess.run(["make", *words], cwd=copy, env=env, stdout=subprocess.PIPE, stderr=subprocess.PIPE, encoding="utf-8")
+        (line,) = [line for line in ran.stderr.splitlines() if not re.match(r"make\[\d+\]: ", line)]
+        equal(ran.stdout, "")
+        equal((ran.returncode, all(part in line for part in ("make KIT=none", "Rattle kit", "minute", "hour"))), (2, True))
+    equal(os.path.exists(os.path.join(work, "nowhere")), False)
+    ran = subprocess.run(["make", "KIT=other"], cwd=copy, env=env, stdout=subprocess.PIPE, stderr=subprocess.PIPE, encoding="utf-8")
+    equal((ran.returncode, "KIT is `rattle` or `none`, not `other`" in ran.stderr), (2, True))
+
+
+def try_library(options, table, work, library):
+    """Tries what is installed and packed of one build."""
+    library.dist = os.path.join(os.path.dirname(library.folder), "dist")
+    kit = "KIT=" + ("rattle" if library.kind == "proved" else "none")
+
+    def step(name, call, *arguments):
+        table.step("%s: %s" % (library.kind, name), call, *arguments)
+
+    step("make", lambda: make(kit, "libraries") and None)
+    tree = os.path.join(work, "tree")
+    said = []
+
+    def installed():
+        said.append(make(kit, "install", "PREFIX=" + tree))
+        equal({name for name in files(tree) if not name.startswith("share/doc/")}, wanted())
+
+    def settings():
+        lines = re.findall(r"^  (export .*)$", said[0], re.M)
+        equal(len(lines), 2)
+        lines.append('gcc examples/paths.c $(pkg-config --cflags --libs kodliwe) -o "$1" && "$1" ' + SYMBOL)
+        equal(run(["bash", "-ec", "\n".join(lines), "bash", os.path.join(work, "paths")], cwd=ROOT), PATH + "\n")
+
+    step("installed", installed)
+    step("settings", settings)
+    for name, part in Installed(tree, work, library).parts():
+        step(name, part)
+
+    def removed():
+        make(kit, "uninstall", "PREFIX=" + tree)
+        equal(files(tree), set())
+
+    step("removed", removed)
+    shutil.rmtree(library.dist, ignore_errors=True)
+    step("dist", lambda: make(kit, "dist") and None)
+
+    def tarball():
+        place = os.path.join(work, "elsewhere")
+        os.makedirs(place)
+        run(["tar", "-C", place, "-xzf"] + glob.glob(os.path.join(library.dist, "*.tar.gz")))
+        run(["sha256sum", "--check", "--quiet", "SHA256SUMS"], cwd=library.dist)
+        moved = Installed(os.path.join(place, os.listdir(place)[0]), work, library)
+        run(["sha256sum", "--check", "--quiet", "share/doc/kodliwe/SHA256SUMS"], cwd=moved.tree)
+        moved.c(), moved.static(), moved.program(), moved.documents(), moved.said()
+
+    step("tarball", tarball)
+    step("package", package, work, library)
+
+    def same():
+        first = sums(library.dist)
+        shutil.rmtree(library.dist)
+        make(kit, "dist")
+        equal(sums(library.dist), first)
+
+    step("same, packed again", same)
+
+    def twice():
+        copy = os.path.join(work, "copy")
+        run(["git", "clone", "--quiet", ROOT, copy])
+        run(["make", "--no-print-directory", kit, "dist"], cwd=copy)
+        equal(sums(os.path.join(copy, os.path.relpath(library.dist, ROOT))), sums(library.dist))
+
+    if options.twice:
+        step("same, from a copy", twice)
+    if options.tree and library.kind == "proved":
+        step("tree", fresh_tree, work, library)
+
+
 def main():
     words = argparse.ArgumentParser(description=__doc__.split("\n")[0])
     words.add_argument("--tree", action="store_true", help="install the package in a fresh tree of debootstrap too (as root)")
@@ -287,69 +376,15 @@ def main():
     words.add_argument(
         "--twice", action="store_true", help="build from a fresh copy of the last commit too (a quarter of an hour and more)"
     )
-    words = words.parse_args()
+    add_libraries(words)
+    options = words.parse_args()
     before = run(["git", "status", "--porcelain", "--ignored=no"], cwd=ROOT)
-    table = Tally(words.only)
-    table.step("make", lambda: make("libraries") and None)
+    table = Tally(options.only)
+    for kind in [options.library] if options.library else Library.KINDS:
+        with tempfile.TemporaryDirectory() as work:
+            try_library(options, table, work, Library(kind))
     with tempfile.TemporaryDirectory() as work:
-        tree = os.path.join(work, "tree")
-
-        said = []
-
-        def installed():
-            said.append(make("install", "PREFIX=" + tree))
-            equal({name for name in files(tree) if not name.startswith("share/doc/")}, wanted())
-
-        def settings():
-            lines = re.findall(r"^  (export .*)$", said[0], re.M)
-            equal(len(lines), 2)
-            lines.append('gcc examples/paths.c $(pkg-config --cflags --libs kodliwe) -o "$1" && "$1" ' + SYMBOL)
-            equal(run(["bash", "-ec", "\n".join(lines), "bash", os.path.join(work, "paths")], cwd=ROOT), PATH + "\n")
-
-        table.step("installed", installed)
-        table.step("settings", settings)
-        for name, part in Installed(tree, work).parts():
-            table.step(name, part)
-
-        def removed():
-            make("uninstall", "PREFIX=" + tree)
-            equal(files(tree), set())
-
-        table.step("removed", removed)
-
-        shutil.rmtree(DIST, ignore_errors=True)
-        table.step("dist", lambda: make("dist") and None)
-
-        def tarball():
-            place = os.path.join(work, "elsewhere")
-            os.makedirs(place)
-            run(["tar", "-C", place, "-xzf"] + glob.glob(os.path.join(DIST, "*.tar.gz")))
-            run(["sha256sum", "--check", "--quiet", "SHA256SUMS"], cwd=DIST)
-            moved = Installed(os.path.join(place, os.listdir(place)[0]), work)
-            run(["sha256sum", "--check", "--quiet", "share/doc/kodliwe/SHA256SUMS"], cwd=moved.tree)
-            moved.c(), moved.static(), moved.program(), moved.documents()
-
-        table.step("tarball", tarball)
-        table.step("package", lambda: package(work))
-
-        def same():
-            first = sums(DIST)
-            shutil.rmtree(DIST)
-            make("dist")
-            equal(sums(DIST), first)
-
-        table.step("same, packed again", same)
-
-        def twice():
-            copy = os.path.join(work, "copy")
-            run(["git", "clone", "--quiet", ROOT, copy])
-            run(["make", "--no-print-directory", "dist"], cwd=copy)
-            equal(sums(os.path.join(copy, "out", "dist")), sums(DIST))
-
-        if words.twice:
-            table.step("same, from a copy", twice)
-        if words.tree:
-            table.step("tree", fresh_tree, work)
+        table.step("choice", choice, work)
     table.step("untracked", lambda: equal(run(["git", "status", "--porcelain", "--ignored=no"], cwd=ROOT), before))
     return table.end()
 

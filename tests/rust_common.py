@@ -7,7 +7,7 @@ import struct
 import subprocess
 import sys
 
-from common import CORPUS, ROOT, Tally, run, tool
+from common import CORPUS, KODLIWE, ROOT, RUST, Tally, run, tool
 from texts import NO_LIMIT, unescaped
 
 HERE = os.path.join(ROOT, "tests", "crate")
@@ -30,6 +30,25 @@ def cargo(folder, *words, target=None, status=0, **variables):
     )  # fmt: skip
     check((ran.returncode == 0) == (status == 0), f"cargo {' '.join(words)}: status {ran.returncode}\n{ran.stdout[-2500:]}")
     return ran.stdout
+
+
+def installed():
+    """Builds the program kodliwe as a user of cargo does, and returns its file."""
+    folder = os.path.join(OUT, "installed")
+    cargo(ROOT, "install", "--path", os.path.join(RUST, "kodliwe-cli"), "--root", folder, "--force", "--offline")
+    return os.path.join(folder, "bin", "kodliwe")
+
+
+def add_programs(parser):
+    """Adds the option --programs, which `chosen` reads."""
+    parser.add_argument("--programs", default=os.environ.get("PROGRAMS", "proved,cargo"), help="the builds to try")
+
+
+def chosen(names):
+    """Returns the builds of the program kodliwe with these names, or with names and files."""
+    for name in names.split(","):
+        name, _, path = name.partition("=")
+        yield name, os.path.abspath(path) if path else KODLIWE if name == "proved" else installed()
 
 
 def package(name, manifest):

@@ -5,6 +5,7 @@ usage: targets.py [STEP..]
 
   packages   Debian 12's rustc 1.85, its libraries, cross linkers and qemu are in out/targets
   aarch64, i686, s390x    the crate is built for this target, and returns the stored answers
+  aarch64 in C, i686 in C    the same of the library for C
 
 Debian's packages are downloaded by apt and unpacked into out/targets; nothing of the machine
 changes. rustc 1.85 is the oldest that the crate names as its `rust-version`. s390x is big-endian,
@@ -17,8 +18,10 @@ import subprocess
 import sys
 
 import rust_common as common
+import c_library
 import crate
-from common import ROOT, RUST, run
+import texts
+from common import INCLUDE, ROOT, RUST, run
 from rust_common import OUT, check
 
 PLACE = os.path.join(ROOT, "out", "targets")
@@ -31,7 +34,7 @@ TARGETS = {
     "i686": ("i686-unknown-linux-gnu", "i386", "i686-linux-gnu", "qemu-i386"),
     "s390x": ("s390x-unknown-linux-gnu", "s390x", "s390x-linux-gnu", "qemu-s390x"),
 }
-COMMON = ["rustc-web", "libstd-rust-web-1.85", "libllvm19", "libz3-4", "qemu-user"]
+COMMON = ["rustc-web", "libstd-rust-web-1.85", "libstd-rust-web-dev", "libllvm19", "libz3-4", "qemu-user"]
 # Libraries that unpacked programs need and a machine may not have.
 COMMON += ["libcapstone4", "libnuma1", "liburing2", "libbinutils", "libjansson4", "libctf0"]
 COMMON += ["libctf-nobfd0", "libgprofng0", "libglib2.0-0", "libgnutls30", "libhogweed6"]
@@ -128,15 +131,19 @@ def rustc():
     return wrapper("rustc", f'exec {found[0]} "$@"')
 
 
+def variable_of(target):
+    """Returns the name of the variable in which cargo finds the target's linker, which is a C compiler."""
+    return f"CARGO_TARGET_{TARGETS[target][0].upper().replace('-', '_')}_LINKER"
+
+
 def environment(target):
     """Returns the variables by which cargo builds for a target."""
     rust, _, gcc, _ = TARGETS[target]
     unpacked = os.path.join(TREE, "usr", "bin", f"{gcc}-gcc-12")
     link = f'PATH={TREE}/usr/bin:$PATH exec {unpacked} --sysroot={TREE} -B{TREE}/usr/{gcc}/lib "$@"'
-    variable = rust.upper().replace("-", "_")
     return {
         "RUSTC": rustc(),
-        f"CARGO_TARGET_{variable}_LINKER": wrapper(f"{gcc}-link", link),
+        variable_of(target): wrapper(f"{gcc}-link", link),
         "RUSTFLAGS": f"--sysroot {sysroot_of(target)} -C link-arg=-L{TREE}/usr/{gcc}/lib",
     }
 
@@ -165,6 +172,25 @@ def long_lengths():
             b"_ZN%dabcE" % (big + 3),
         )
     ]
+
+
+def check_c_library(target):
+    """Returns a check of the library for C on one target."""
+
+    def call():
+        env = environment(target)
+        place, rust = os.path.join(OUT, "targets"), TARGETS[target][0]
+        common.cargo(os.path.join(RUST, "kodliwe-capi"), "build", "--release", "--target", rust, target=place, **env)
+        release = os.path.join(place, rust, "release")
+        program, source = os.path.join(release, "c_answers"), os.path.join(c_library.HERE, "answers.c")
+        words = ["-O1", "-std=c11", "-I", INCLUDE, source, os.path.join(release, "libkodliwe.a"), "-o", program]
+        run([env[variable_of(target)], *words])
+        expected = list(texts.stored())[::20]
+        records = b"".join(texts.record(symbol, limit) for symbol, limit, _ in expected)
+        c_library.compared(run([*runner(target), program], input=records), expected)
+        return f"{len(expected)} texts, in both forms at 13 sizes and in parts: no answer differs"
+
+    return call
 
 
 def check_target(target):
@@ -198,6 +224,7 @@ def check_target(target):
 
 CHECKS = [("packages", check_packages)]
 CHECKS += [(target, check_target(target)) for target in TARGETS]
+CHECKS += [(target + " in C", check_c_library(target)) for target in ("aarch64", "i686")]
 
 if __name__ == "__main__":
     os.makedirs(OUT, exist_ok=True)

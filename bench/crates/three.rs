@@ -1,8 +1,8 @@
 //! Calls the erased crate, the published crate or the proved archive with the same symbols.
 //!
-//! usage: three path|text WHICH ROUNDS < LINES, three time ROUNDS < LINES; WHICH is ours, theirs or archive
+//! usage: three try|path|text WHICH ROUNDS < LINES, three time ROUNDS < LINES; WHICH is ours, theirs or archive
 //!
-//! `path` reads each line as a symbol and prints it with its hash. `text` demangles all of the input:
+//! `try` reads each line as a symbol, and `path` prints it with its hash too. `text` demangles all of the input:
 //! the crates by their streams, the archive by its call for texts. `time` prints for each WHICH the
 //! nanoseconds that `path` takes for a symbol, the least of rounds that alternate.
 use std::fmt::Write;
@@ -15,6 +15,7 @@ const LIMIT: usize = 1_000_000;
 
 unsafe extern "C" {
     // As include/kodliwe.h declares them.
+    fn kodliwe_is_symbol(symbol: *const u8, len: usize) -> bool;
     fn kodliwe_demangle(
         symbol: *const u8,
         len: usize,
@@ -57,6 +58,22 @@ const PATHS: [(&str, Path); 3] = [
     ("archive", |symbol, room| {
         let (out, size) = (room.bytes.as_mut_ptr(), room.bytes.len());
         unsafe { kodliwe_demangle(symbol.as_ptr(), symbol.len(), out, size, true) };
+    }),
+];
+
+macro_rules! try_by {
+    ($library:ident) => {
+        |symbol, _| {
+            black_box($library::try_demangle(symbol).is_ok());
+        }
+    };
+}
+
+const TRIES: [(&str, Path); 3] = [
+    ("ours", try_by!(ours)),
+    ("theirs", try_by!(theirs)),
+    ("archive", |symbol, _| {
+        black_box(unsafe { kodliwe_is_symbol(symbol.as_ptr(), symbol.len()) });
     }),
 ];
 
@@ -111,11 +128,12 @@ fn main() {
     if words[0] == "time" {
         return times(&symbols, rounds, &mut room);
     }
-    let named = PATHS.into_iter().find(|(name, _)| *name == words[1]);
+    let jobs = if words[0] == "try" { TRIES } else { PATHS };
+    let named = jobs.into_iter().find(|(name, _)| *name == words[1]);
     let (which, path) = named.expect("ours, theirs or archive");
     for _ in 0..rounds {
         match &words[0][..] {
-            "path" => all(path, &symbols, &mut room),
+            "try" | "path" => all(path, &symbols, &mut room),
             _ => text_by(which, black_box(input.as_bytes()), &mut room),
         }
     }

@@ -6,10 +6,10 @@
     >>> kodliwe.demangle_text("worker 1: called _RNvC3foo3bar")
     'worker 1: called foo::bar'
 
-The functions call the proved library for C, through ctypes. The variable ``KODLIWE_LIB`` names the shared library
-``libkodliwe.so``, or its folder. Without this variable, these are tried in order:
+The functions call the library for C, ``libkodliwe``, through ctypes. ``version`` says whether it is the proved one. The variable
+``KODLIWE_LIB`` names the shared library, or its folder. Without this variable, these are tried in order:
 
-- the library next to this module,
+- the library next to this module, which ``pip install`` builds,
 - the one in ``lib`` of the PREFIX in which this module is installed,
 - the one in the prefix of this Python,
 - the one in ``/usr/local``,
@@ -29,13 +29,13 @@ import sys
 import threading
 from typing import Any, AnyStr, Callable, Iterator, List, NamedTuple, Optional, Tuple, Union
 
-__all__ = ["MAX_SIZE", "demangle", "demangle_text", "is_symbol", "strip_thin_lto", "try_demangle"]
+__all__ = ["MAX_SIZE", "demangle", "demangle_text", "is_symbol", "strip_thin_lto", "try_demangle", "version"]
 __version__ = "0.1.0"
 
 #: The most bytes that are printed for a symbol, before ``{size limit reached}`` and its suffix.
 MAX_SIZE = 1_000_000
 
-_NAMES = ("libkodliwe.so", "libkodliwe.so.0", "libkodliwe.so." + __version__, "libkodliwe.dylib")
+_NAMES = ("libkodliwe.so", "libkodliwe.so.0", "libkodliwe.so." + __version__, "libkodliwe.dylib", "kodliwe.dll")
 # Enough for the path of any usual symbol, so that one call prints it. A longer path gets a separate buffer.
 _ROOM = 1 << 16
 
@@ -95,7 +95,11 @@ def _looked_for() -> Union[ctypes.CDLL, str]:
             return ctypes.CDLL(path)
         except OSError as error:
             tried.append(str(error))
-    how = "`make install PREFIX=%s` in Kodliwe's repository installs it for this module, or KODLIWE_LIB names it" % _prefixes()[0]
+    how = (
+        "`make install PREFIX=%s` in Kodliwe's repository installs it for this module, `pip install` of its bindings/python builds it"
+        % _prefixes()[0]
+    )
+    how += ", or KODLIWE_LIB names it"
     return "kodliwe finds no libkodliwe.so: %s (%s)" % (how, "; ".join(tried))
 
 
@@ -166,6 +170,19 @@ def _limit(limit: int) -> int:
     return min(limit, MAX_SIZE)
 
 
+def version() -> str:
+    """Returns the name and the version of the library, and how it was built: proved with Rattle, or only tested.
+
+    >>> version()  # doctest: +ELLIPSIS
+    'kodliwe 0.1.0, ...'
+    """
+    call = _load().kodliwe_version
+    call.argtypes, call.restype = [ctypes.c_void_p, ctypes.c_size_t], ctypes.c_size_t
+    text = ctypes.create_string_buffer(call(ctypes.create_string_buffer(1), 0))
+    call(text, len(text))
+    return text.value.decode()
+
+
 def is_symbol(text: AnyStr) -> bool:
     """Returns whether the text is a Rust symbol, after a suffix of ThinLTO (``.llvm.``) is removed. Prints no path."""
     symbol = _encoded(text)
@@ -208,7 +225,9 @@ def demangle_text(text: AnyStr, hash: bool = False, limit: int = MAX_SIZE, fold:
     """Returns the text with each Rust symbol in it replaced by its path, and the rest unchanged.
 
     A candidate symbol starts at ``_ZN`` or ``_R``. It ends before the next character that is not an ASCII letter, a digit,
-    ``$``, ``.`` or ``_``. The arguments ``hash``, ``limit`` and ``fold`` are those of ``demangle``, for each symbol.
+    ``$``, ``.`` or ``_``. After a letter or a digit it stays. A single ``_`` before a symbol, as macOS has it, is replaced with
+    it, if the ``_`` is the first character or follows one that no symbol may have. The arguments ``hash``, ``limit`` and
+    ``fold`` are those of ``demangle``, for each symbol.
     """
     given, calls = _encoded(text), _calls()
     filtered = _written(calls.demangle_text_folded if fold else calls.demangle_text, given, hash, _limit(limit))

@@ -3,13 +3,13 @@
 
 usage: erase.py [--counts] REPOSITORY TARGET
 
-Reads crates.txt and crates/*/src/**/*.rt of REPOSITORY, and writes a cargo workspace to TARGET:
-the package `kodliwe`, where each library is a module (crates/demangle_v0/src/parser.rt becomes
-src/demangle_v0/parser.rs) and each program a binary (crates/kodliwe/src becomes src/bin/kodliwe),
-and the package `rustc-demangle`. The folder `template` next to this file has the hand-written
-parts: the manifests, the public interface, the module `support` in place of the kit's library,
-and tests. The table of characters is crates/character_tables/stdout, which a program of the
-repository prints.
+Reads crates.txt and crates/*/src/**/*.rt of REPOSITORY, and writes a cargo workspace to TARGET. Its
+packages are those of `PACKAGES`. A crate of the repository is a module of a package, so
+crates/demangle_v0/src/parser.rt becomes src/demangle_v0/parser.rs. The folder `template` next to
+this file has the hand-written parts: the manifests, the public interface and tests. Its folder
+`support` has the parts that take the place of the kit's library. A package has those parts that
+its module `support` declares. The table of characters is crates/character_tables/stdout, which a
+program of the repository prints.
 
 A rule is about a construct of the language, and none about a function or a file of the repository.
 A construct that no rule knows ends the run with its file and line. The eraser is trusted: nothing
@@ -18,31 +18,62 @@ is proved of it, and its output is only tested.
 
 import argparse
 import os
+import re
 import shutil
 import subprocess
 import sys
+from typing import NamedTuple
 
-from modules import GATE, Module, find_gated, read_uses, rust_of
+from modules import (
+    Module,
+    Other,
+    drop_ghost_imports,
+    drop_unused_exports,
+    erase_modules,
+    feature_of,
+    find_features,
+    find_module_needs,
+    item_lines,
+    read_uses,
+    read_written,
+    rust_of,
+)
 from rattle_tokens import SourceError
 from rules import COUNTS
+from trees import items_of, tree_of
+from unused import Usage, add_gates, gate_of, most
 
 TEMPLATE = os.path.join(os.path.dirname(os.path.abspath(__file__)), "template")
-# The library is these crates with all that they use.
-LIBRARIES = ("rustc_demangle", "piece_buffer")
-PROGRAMS = ("kodliwe", "demangle_filter")
-# Crates for tests. The first is used by the programs' tests too, and the second has only tests.
-TEST_CRATES = ("test_doubles", "demangle_vectors")
+
+
+class Package(NamedTuple):
+    """A package of the workspace."""
+
+    name: str
+    # The crates that it is about. They are its modules, with all that they use.
+    roots: tuple = ()
+    # Crates that only its tests use.
+    tests: tuple = ()
+    # The package that has the crates that this one uses and does not have itself.
+    below: str = ""
+    # The feature of that package that it needs.
+    feature: str = ""
+    # Whether it has the features `std` and `stream`, without which some items are left out.
+    has_features: bool = False
+
+
+# A package comes after the one below it.
+PACKAGES = (
+    Package("kodliwe", ("rustc_demangle",), ("test_doubles", "demangle_vectors"), has_features=True),
+    Package("kodliwe-cli", ("kodliwe", "demangle_filter"), ("test_doubles",), "kodliwe", "stream"),
+    Package("rustc-demangle"),
+    Package("kodliwe-capi", ("demangle_c",), below="kodliwe"),
+)
+# The module of a package by which the packages above it reach its other modules.
+INTERNAL = "internal"
 LICENCES = ("LICENSE", "LICENSE-MIT-rustc-demangle", "LICENSE-APACHE-rustc-demangle")
 TABLES = ("crates", "character_tables", "stdout")
-# Lints that are off for erased modules, and on for hand-written ones. They are about names that
-# only clauses used, and about forms that the prover needs. clippy's other groups stay on.
-# Without `std` some functions have no caller, because the stream is left out.
-ALLOWED = (
-    "#[allow(unused_imports, unused_labels, unused_variables)]\n"
-    "#[allow(clippy::complexity, clippy::style, clippy::manual_unwrap_or_default)]\n"
-    "#[cfg_attr(test, allow(unused_assignments, clippy::suspicious))]\n"
-    '#[cfg_attr(not(feature = "std"), allow(dead_code))]\n'
-)
+SUPPORT = os.path.join(TEMPLATE, "support")
 
 
 def read_crates(repository):
@@ -66,52 +97,127 @@ def closure(crates, names):
     return found
 
 
-def read_modules(repository, crate, program):
-    """Reads the modules of a crate."""
-    root = os.path.join(repository, "crates", crate, "src")
-    for folder, _, files in sorted(os.walk(root)):
-        for name in sorted(files):
-            file = os.path.join(folder, name)
-            if not name.endswith(".rt"):
-                continue
-            below = os.path.relpath(file, root)[:-3].split(os.sep)
-            path = (crate, *(below if below not in (["lib"], ["main"]) else ()))
-            try:
-                yield Module(crate, path, file, program)
-            except SourceError as error:
-                fail(repository, file, error)
+def places_of(crates):
+    """Returns by package where each crate is: the crates of the package, and of those below it."""
+    places = {}
+    for package in PACKAGES:
+        below = places.get(package.below, {})
+        head = (package.below.replace("-", "_"), INTERNAL)
+        reached = {name: (*head, name) for name, path in below.items() if path[0] == "crate"}
+        own = [*closure(crates, package.roots), *package.tests]
+        places[package.name] = {
+            **reached,
+            **{name: ("crate", name) for name in own if name not in reached},
+        }
+        places[package.name].update({name: ("crate", name) for name in package.tests})
+    return places
+
+
+def read_modules(repository, package, places):
+    """Reads the modules of a package."""
+    for crate in sorted(name for name, path in places.items() if path[0] == "crate"):
+        root = os.path.join(repository, "crates", crate, "src")
+        for folder, _, files in sorted(os.walk(root)):
+            for name in sorted(files):
+                file = os.path.join(folder, name)
+                if not name.endswith(".rt"):
+                    continue
+                below = os.path.relpath(file, root)[:-3].split(os.sep)
+                path = (crate, *(below if below not in (["lib"], ["main"]) else ()))
+                with open(file, encoding="utf-8") as source:
+                    try:
+                        module = Module(package.name, path, file, source.read())
+                    except SourceError as error:
+                        fail(repository, file, error)
+                yield module
 
 
 def fail(repository, file, error):
     sys.exit(f"{os.path.relpath(file, repository)}:{error.line}: {error.text}")
 
 
-def all_modules(repository, crates, libraries):
-    """Reads all modules, except those of laws and those of tests of what Rust does not have."""
-    modules = [m for name in libraries for m in read_modules(repository, name, False)]
-    modules += [m for name in PROGRAMS for m in read_modules(repository, name, True)]
-    for module in modules:
-        kit_crates = set(crates[module.crate]) - set(crates)
-        try:
-            read_uses(module, set(libraries), kit_crates)
-        except SourceError as error:
-            fail(repository, module.file, error)
-    laws = {m.path for m in modules if m.is_empty}
-    kept = [m for m in modules if not is_law(m, modules, laws) and m.lacking is None]
-    for module in modules:
-        if module.lacking:
-            print(f"left out: {os.path.relpath(module.file, repository)}: {module.lacking}")
-    return kept
+def read_all(repository, crates, places):
+    """Reads the erased modules of each package, except those of tests of what Rust does not have."""
+    found = {package.name: list(read_modules(repository, package, places[package.name])) for package in PACKAGES}
+    try:
+        erase_modules([module for modules in found.values() for module in modules])
+    except SourceError as error:
+        fail(repository, error.file, error)
+    for name, modules in found.items():
+        for module in modules:
+            try:
+                read_uses(module, places[name], set(crates[module.crate]) - set(crates))
+            except SourceError as error:
+                fail(repository, module.file, error)
+            if module.lacking:
+                print(f"left out: {os.path.relpath(module.file, repository)}: {module.lacking}")
+        found[name] = [module for module in modules if module.lacking is None]
+    return found
 
 
-def is_law(module, modules, laws):
-    """Returns whether a module has only laws, or only declares modules that do."""
-    if module.path in laws:
+def without_empty(modules):
+    """Returns the modules that have items, exports or modules with such."""
+    kept = [module for module in modules if has_items(module)]
+    paths = {module.path[:length] for module in kept for length in range(len(module.path) + 1)}
+    return [module for module in modules if module.path in paths]
+
+
+def has_items(module):
+    if any(visibility and leaves for _, visibility, leaves in module.uses):
         return True
-    names = [t for t in module.tokens if t.kind == "name"]
-    children = [m.path for m in modules if m.path[:-1] == module.path and not m.is_test()]
-    declares_only = all(t.text in ("pub", "mod", *module.children) for t in names)
-    return bool(children) and declares_only and all(path in laws for path in children)
+    return any(item.word not in ("use", "mod", "") or item.body() is not None for item in items_of(tree_of(module.tokens)))
+
+
+def written_of(package):
+    """Reads the hand-written modules of a package."""
+    root = os.path.join(TEMPLATE, package.name, "src")
+    features = {}
+    for head in ("lib.rs", os.path.join("support", "mod.rs")):
+        if os.path.exists(os.path.join(root, head)):
+            with open(os.path.join(root, head), encoding="utf-8") as file:
+                declared = re.findall(r"#\[cfg\((.*)\)\]\n(?:#.*\n)*(?:pub )?mod (\w+);", file.read())
+            for condition, name in declared:
+                feature = re.search(r'feature = "(\w+)"', condition)
+                features[os.path.join(os.path.dirname(head), name)] = "test" if "test" in condition else feature[1]
+    for folder, _, names in sorted(os.walk(root)):
+        for name in sorted(names):
+            place = os.path.join(folder, name)
+            below = os.path.relpath(place, root)[:-3]
+            with open(place, encoding="utf-8") as file:
+                yield read_written(file.read(), features.get(below, ""))
+
+
+def trim(package, modules, above):
+    """Drops from a package's modules what nothing uses, and returns what paths need.
+
+    `above` are the modules of the packages above it.
+    """
+    others = [*written_of(package), *above]
+    for module in modules if not package.has_features else []:
+        module.needs = ""
+    find_features(modules, package.tests)
+    exports = drop_unused_exports(modules, others)
+    gated = find_features(modules, package.tests)
+    usage = Usage(modules, others)
+    usage.find_dead()
+    usage.find_needs()
+    find_module_needs(usage, exports)
+    gated = find_features(modules, package.tests)
+    for place, needs in exports.items():
+        module = next(m for m in modules if m.root() == place[:-1])
+        module.export_needs[place[-1]] = needs
+        if needs != module.feature:
+            gated[place] = most(gated.get(place, ""), needs)
+    for named in usage.items:
+        if named.needs and not named.module.feature.startswith("test"):
+            gated[(*named.module.root(), named.name)] = most(named.needs, named.module.feature)
+    for module, names in usage.drop_dead().items():
+        module.ghost_names |= names
+        for name in {leaf[-1] for _, _, leaves in module.uses for leaf in leaves}:
+            module.import_needs[name] = usage.needs_of_name(module, name) or ""
+        drop_ghost_imports(module)
+    add_gates(usage)
+    return gated
 
 
 def put(file, text):
@@ -120,52 +226,76 @@ def put(file, text):
         out.write(text)
 
 
-def write_modules(repository, modules, package):
-    """Writes the erased modules."""
-    gated = find_gated([m for m in modules if not m.program])
+def fill(file, mark, text):
+    """Replaces a mark in a file of the template."""
+    with open(file, encoding="utf-8") as source:
+        old = source.read()
+    if mark in old:
+        put(file, old.replace(mark, text))
+
+
+def write_modules(repository, modules, gated, source):
+    """Writes the erased modules into a package's folder `src`.
+
+    A file of the template takes the place of the module of its path.
+    """
     written = {m.path for m in modules}
     for module in modules:
-        source = os.path.relpath(module.file, repository)
-        note = f"// Made from {source} by packaging/crate/erase.py: edit that file instead.\n"
-        below = list(module.path[1:]) or ["main" if module.program else "mod"]
-        folder = os.path.join(package, "src", "bin" if module.program else "", module.crate)
-        lints = ALLOWED.replace("#[", "#![") if module.program and below == ["main"] else ""
-        text = rust_of(module, gated, written)
-        put(os.path.join(folder, *below) + ".rs", with_head(note, lints, text))
+        place = os.path.relpath(module.file, repository)
+        note = f"// Made from {place} by packaging/crate/erase.py: edit that file instead.\n"
+        below = list(module.path[1:]) or ["mod"]
+        file = os.path.join(source, module.crate, *below) + ".rs"
+        if not os.path.exists(file):
+            put(file, note + rust_of(module, gated, written))
 
 
-def with_head(note, lints, text):
-    """Puts the note first, and the lints after the file's own documentation."""
-    if not lints:
-        return note + text
-    lines = text.split("\n")
-    end = next(at for at, line in enumerate(lines) if not line.startswith("//!"))
-    return note + "\n".join([*lines[:end], lints, *lines[end:]])
-
-
-def declarations(libraries, modules):
-    """Returns the `mod` items of the public interface."""
-    roots = {m.path[0]: m for m in modules if len(m.path) == 1 and not m.program}
+def declarations(package, modules, gated):
+    """Returns the `mod` items of a package's modules."""
     lines = []
-    for name in sorted(libraries):
-        if all(t.is_blank() for t in roots[name].tokens):
-            continue
-        gate = ""
-        if name == TEST_CRATES[0]:
-            gate = GATE
-        elif name == TEST_CRATES[1]:
-            gate = '#[cfg(all(test, feature = "std"))]\n'
-        elif roots[name].needs_std:
-            gate = GATE
-        lines.append(f"{gate}#[doc(hidden)]\n{ALLOWED}pub mod {name};\n")
+    for module in sorted((m for m in modules if len(m.path) == 1), key=lambda m: m.path):
+        feature = feature_of(module.root(), gated)
+        gate = gate_of(feature)
+        if module.crate in package.tests:
+            gate = f'#[cfg(all(test, feature = "{feature}"))]\n' if feature else gate_of("test")
+        lines.append(f"{gate}mod {module.crate};\n")
     return "".join(lines)
+
+
+def write_package(repository, target, package, modules, above, gated):
+    """Writes a package. `above` has the paths by which the packages above reach its items."""
+    folder = os.path.join(target, package.name)
+    source = os.path.join(folder, "src")
+    write_modules(repository, modules, gated, source)
+    fill(os.path.join(source, "lib.rs"), "// MODULES\n", declarations(package, modules, gated))
+    internal = os.path.join(source, INTERNAL + ".rs")
+    if os.path.exists(internal):
+        fill(internal, "// ITEMS\n", item_lines(above, gated))
+    if os.path.isdir(os.path.join(source, "support")):
+        write_support(repository, os.path.join(source, "support"))
+    for name in LICENCES:
+        shutil.copy(os.path.join(repository, name), folder)
+
+
+def write_support(repository, folder):
+    """Writes the parts in place of the kit's library that a package's module `support` declares."""
+    with open(os.path.join(folder, "mod.rs"), encoding="utf-8") as file:
+        declared = re.findall(r"(?m)^ *(?:pub )?mod (\w+);", file.read())
+    for name in declared:
+        if os.path.isdir(os.path.join(SUPPORT, name)):
+            shutil.copytree(os.path.join(SUPPORT, name), os.path.join(folder, name))
+        elif not os.path.exists(os.path.join(folder, name + ".rs")):
+            shutil.copy(os.path.join(SUPPORT, name + ".rs"), folder)
+    if "unicode" in declared:
+        with open(os.path.join(repository, *TABLES), encoding="utf-8") as file:
+            put(os.path.join(folder, "unicode", "tables.rs"), file.read())
 
 
 def lay_out(target):
     """Formats all files by `cargo fmt`."""
-    words = ["cargo", "fmt", "--all", "--manifest-path", os.path.join(target, "Cargo.toml")]
-    if subprocess.run(words, check=False).returncode != 0:
-        sys.exit("erase.py: `cargo fmt` failed")
+    for package in PACKAGES:
+        words = ["cargo", "fmt", "--manifest-path", os.path.join(target, package.name, "Cargo.toml")]
+        if subprocess.run(words, check=False).returncode != 0:
+            sys.exit("erase.py: `cargo fmt` failed")
 
 
 def clear(target):
@@ -190,21 +320,19 @@ def main():
         sys.exit(f"erase.py: there is no {os.path.join(*TABLES)} in {options.repository}")
     repository, target = os.path.abspath(options.repository), os.path.abspath(options.target)
     crates = read_crates(repository)
-    libraries = [*closure(crates, LIBRARIES), *TEST_CRATES]
-    modules = all_modules(repository, crates, libraries)
+    places = places_of(crates)
+    modules = read_all(repository, crates, places)
     clear(target)
-    shutil.copytree(TEMPLATE, target, dirs_exist_ok=True)
-    package = os.path.join(target, "kodliwe")
-    write_modules(repository, modules, package)
-    front = os.path.join(package, "src", "lib.rs")
-    with open(front, encoding="utf-8") as file:
-        text = file.read()
-    put(front, text.replace("// MODULES\n", declarations(libraries, modules)))
-    with open(os.path.join(repository, *TABLES), encoding="utf-8") as file:
-        put(os.path.join(package, "src", "support", "unicode", "tables.rs"), file.read())
-    for name in LICENCES:
-        shutil.copy(os.path.join(repository, name), package)
-        shutil.copy(os.path.join(repository, name), os.path.join(target, "rustc-demangle"))
+    shutil.copytree(TEMPLATE, target, ignore=lambda place, _: ["support"] if place == TEMPLATE else [], dirs_exist_ok=True)
+    above = []
+    for package in reversed(PACKAGES):
+        own = modules[package.name]
+        gated = trim(package, own, above)
+        own = without_empty(own)
+        head = (package.name.replace("-", "_"), INTERNAL)
+        reached = {path[2:] for other in above for path in other.paths if path[:2] == head}
+        write_package(repository, target, package, own, reached, gated)
+        above += [Other(m.tokens, m.paths(), package.feature, m.uses, is_above=True) for m in own]
     lay_out(target)
     if options.counts:
         print("\n".join(f"{count:6} {rule}" for rule, count in COUNTS.most_common()))

@@ -3,6 +3,7 @@
 import re
 from collections import Counter
 
+from exports import write_exports
 from rattle_tokens import (
     SourceError,
     Token,
@@ -24,20 +25,22 @@ LEFT_OVERS = (*GHOST_WORDS, "prove", "prove_eq", "prove_ne", "Model", "tactic", 
 # Attributes that mean the same in Rust.
 RUST_ATTRIBUTES = {
     "allow", "cfg", "cold", "derive", "doc", "expect", "inline", "must_use", "non_exhaustive",
-    "repr", "test", "track_caller", "default",
+    "repr", "test", "track_caller", "default", "unsafe",
 }  # fmt: skip
 
 
-def drop_ghosts(tokens, dropped):
+def drop_ghosts(tokens, dropped, members):
     """Drops clauses, ghost items, `impl Model for` and attributes that serve the check.
 
-    Adds the names that occur in dropped text to `dropped`.
+    Adds the names that occur in dropped text to `dropped`, and those of ghost members to `members`.
     """
     out, at = [], 0
     while at < len(tokens):
         token = tokens[at]
         if token.is_name("ghost"):
             end = end_of_ghost(tokens, at, out)
+            if text_at(tokens, after(tokens, after(tokens, at))) == ":":
+                members.add(text_at(tokens, after(tokens, at)))
         elif token.is_name("requires", "ensures"):
             end = end_of_clause(tokens, at)
         elif token.is_name("impl") and is_model(tokens, at):
@@ -133,12 +136,15 @@ def keep_attribute(tokens, at, out):
         inside[0] = Token("name", "rustfmt", line)
     elif name not in RUST_ATTRIBUTES:
         raise SourceError(line, f"no rule for the attribute `{name}`")
+    if [token.text for token in inside] == ["inline", "(", "always", ")"]:
+        # A build for debugging compiles many times as long if it inlines.
+        inside = tokens_of("cfg_attr(not(debug_assertions), inline(always))", line)
     if name == "derive":
         COUNTS["Drop in #[derive(..)]"] += any(t.text == "Drop" for t in inside)
         traits = [t.text for t in inside[2:-1] if t.text not in (",", "Drop")]
         if not traits:
             return after_line(tokens, end)
-        inside = [*inside[:2], Token("name", ", ".join(traits), line), inside[-1]]
+        inside = [*inside[:2], *tokens_of(", ".join(traits), line), inside[-1]]
     out.extend([*tokens[at : opened + 1], *inside, tokens[end]])
     return end + 1
 
@@ -161,6 +167,7 @@ FORMS = [
     ("prove_eq!(", "debug_assert_eq!("),
     ("prove_ne!(", "debug_assert_ne!("),
     # A panic takes no handle.
+    ("assert!($h; false,", "panic!("),
     ("assert!($h;", "assert!("),
     ("assert_eq!($h;", "assert_eq!("),
     ("assert_ne!($h;", "assert_ne!("),
@@ -192,12 +199,19 @@ def rewrite_forms(tokens):
 
 
 RUNTIME = pattern_of("(rt: HostRuntime)")
+MAIN = pattern_of("fn main(rt: HostRuntime)")
 
 
 def make_runtimes(tokens):
-    """Makes `fn main(rt: HostRuntime)` take nothing; its body makes the runtime if it uses it."""
+    """Makes `fn main(rt: HostRuntime)` take nothing; its body makes the runtime if it uses it.
+
+    A test's function is made so too. A file of the package's folder `bin` calls `main`, so it is
+    public.
+    """
     out, at = [], 0
     while at < len(tokens):
+        if match(tokens, at, MAIN)[0] is not None:
+            out.extend(tokens_of("pub ", tokens[at].line))
         end, _ = match(tokens, at, RUNTIME)
         if end is None:
             out.append(tokens[at])
@@ -225,29 +239,8 @@ def refuse_left_overs(tokens):
             raise SourceError(token.line, "no rule for this `'`")
 
 
-def erase(text, dropped):
+def erase(text, dropped, members):
     """Returns the tokens of a source text without its contracts, in Rust's forms."""
-    return make_runtimes(rewrite_forms(drop_ghosts(tokens_of(text), dropped)))
-
-
-ITEMS = ("struct", "enum", "union", "const", "static", "trait", "impl", "type", "macro_rules")
-
-
-def says_nothing(tokens):
-    """Returns whether a module has only functions with empty bodies, which are laws."""
-    tokens = [t for t in tokens if not t.is_blank()]
-    functions, at = 0, 0
-    while at < len(tokens):
-        if tokens[at].is_name(*ITEMS):
-            return False
-        if tokens[at].is_name("use", "mod"):
-            at = end_of(tokens, at, ";{")
-            if tokens[at].text == "{":
-                return False
-        elif tokens[at].is_punct("{"):
-            if at + 1 < len(tokens) and tokens[at + 1].text != "}":
-                return False
-            functions += 1
-            at += 1
-        at += 1
-    return functions > 0
+    tokens, exports = write_exports(drop_ghosts(tokens_of(text), dropped, members))
+    COUNTS["exported function"] += exports
+    return rewrite_forms(tokens)

@@ -1,5 +1,5 @@
-/* Makes each call in a signal handler on a separate stack, and prints how many bytes of that stack the calls touch.
- * The input is that of answers.c. */
+/* Makes each call in a signal handler on a separate stack, and prints a line for each: its name, and the most bytes of that stack
+ * that it touches. The input is that of answers.c. */
 #define _GNU_SOURCE
 #include "kodliwe.h"
 
@@ -9,23 +9,55 @@
 #include <stdlib.h>
 #include <string.h>
 
-enum { STACK = 1 << 18, MARK = 0xA5, LIMITS = 6 };
-static unsigned char *stack;
+enum { STACK = 1 << 18, MARK = 0xA5 };
+static const char *const calls[] = {
+    "none",
+    "kodliwe_demangle",
+    "kodliwe_demangle_limited",
+    "kodliwe_demangle_part",
+    "kodliwe_print_part",
+    "kodliwe_demangle_folded",
+    "kodliwe_demangle_text",
+    "kodliwe_demangle_text_folded",
+    "kodliwe_is_symbol",
+    "kodliwe_symbol_len",
+    "kodliwe_path_len",
+    "kodliwe_version",
+};
+enum { CALLS = sizeof calls / sizeof *calls };
+static unsigned char *stack; /* marked, except while a call is made */
 static char symbol[8 << 20], out[4096];
 static uint32_t len;
-static int form; /* 0: the handler calls nothing; 1: with the hash; 2: without it */
+static size_t path_len;
+static int which; /* the index of the call that the handler makes */
+static bool hash;
 
 static void handler(int sig) {
     (void)sig;
-    if (form != 0) kodliwe_demangle(symbol, len, out, sizeof out, form == 1);
+    switch (which) {
+    case 1: kodliwe_demangle(symbol, len, out, sizeof out, hash); break;
+    case 2: kodliwe_demangle_limited(symbol, len, out, sizeof out, hash, sizeof out); break;
+    case 3: kodliwe_demangle_part(symbol, len, out, sizeof out, hash, SIZE_MAX, 1); break;
+    case 4: kodliwe_print_part(symbol, len, path_len, out, sizeof out, hash, SIZE_MAX, 1); break;
+    case 5: kodliwe_demangle_folded(symbol, len, out, sizeof out, hash, SIZE_MAX); break;
+    case 6: kodliwe_demangle_text(symbol, len, out, sizeof out, hash, SIZE_MAX); break;
+    case 7: kodliwe_demangle_text_folded(symbol, len, out, sizeof out, hash, SIZE_MAX); break;
+    case 8: kodliwe_is_symbol(symbol, len); break;
+    case 9: kodliwe_symbol_len(symbol, len); break;
+    case 10: kodliwe_path_len(symbol, len); break;
+    case 11: kodliwe_version(out, sizeof out); break;
+    default: break;
+    }
 }
 
-static size_t touched(int which) {
-    memset(stack, MARK, STACK);
-    form = which;
-    raise(SIGUSR1);
+static size_t touched(int call) {
+    uint64_t mark;
     size_t low = 0;
-    while (low < STACK && stack[low] == MARK) low++;
+    memset(&mark, MARK, sizeof mark);
+    which = call;
+    raise(SIGUSR1);
+    while (low < STACK && memcmp(stack + low, &mark, sizeof mark) == 0) low += sizeof mark;
+    memset(stack + low, MARK, STACK - low);
     return STACK - low;
 }
 
@@ -34,24 +66,21 @@ int main(void) {
     stack_t alternate = {.ss_sp = stack, .ss_size = STACK};
     struct sigaction action = {.sa_handler = handler, .sa_flags = SA_ONSTACK};
     if (stack == NULL || sigaltstack(&alternate, NULL) != 0 || sigaction(SIGUSR1, &action, NULL) != 0) return 2;
-    size_t alone = touched(0), most = 0, calls = 0, above[LIMITS] = {0};
-    const size_t limits[LIMITS] = {2048, 4096, 5632, 8192, 65536, 98304};
-    char deepest[60] = "";
+    memset(stack, MARK, STACK);
+    size_t alone = touched(0), most[CALLS] = {0};
     uint64_t limit;
     while (fread(&len, sizeof len, 1, stdin) == 1) {
         if (len > sizeof symbol || fread(&limit, sizeof limit, 1, stdin) != 1 || fread(symbol, 1, len, stdin) != len) return 2;
-        for (int which = 1; which < 3; which++) {
-            size_t bytes = touched(which) - alone;
-            calls++;
-            for (int i = 0; i < LIMITS; i++) above[i] += bytes > limits[i];
-            if (bytes > most) {
-                most = bytes;
-                snprintf(deepest, sizeof deepest, "%u bytes, %.40s", len, symbol);
+        path_len = kodliwe_path_len(symbol, len);
+        for (int call = 1; call < CALLS; call++) {
+            for (int form = 0; form < 2; form++) {
+                hash = form == 0;
+                size_t bytes = touched(call) - alone;
+                if (bytes > most[call]) most[call] = bytes;
+                if (call > 7) break; /* it has no form */
             }
         }
     }
-    printf("%zu calls; the handler itself %zu bytes; a call at most %zu more (%s)\n", calls, alone, most, deepest);
-    printf("calls above");
-    for (int i = 0; i < LIMITS; i++) printf(" %zu bytes: %zu%s", limits[i], above[i], i + 1 < LIMITS ? "," : "\n");
-    return above[LIMITS - 1] != 0;
+    for (int call = 1; call < CALLS; call++) printf("%s %zu\n", calls[call], most[call]);
+    return 0;
 }

@@ -1,13 +1,11 @@
-//! Prints the results of the library for symbols, or for all characters.
+//! Prints the results of the library for symbols.
 //!
-//! usage: answers records < RECORDS, answers lines < SYMBOLS, answers characters
+//! usage: answers records < RECORDS, answers lines < SYMBOLS
 //!
 //! A record is 4 bytes of a length, 8 bytes of a limit and the text. The limit `u64::MAX` means no limit.
 //! For each it writes five fields with 4 bytes of their length before them: `OK` or `ERR`, `as_str`,
 //! the two printed forms, and the pieces of each form, with U+001F between them and U+001E between
 //! the forms. `lines` writes for each line `OK` or `ERR` and the two forms, with tabs between them.
-//! `characters` writes a letter for each code point, as crates/character_tables does.
-use kodliwe::support::unicode::properties::{is_grapheme_extend, GeneralCategory};
 use kodliwe::{demangle, try_demangle, Demangle, SinkRefused, TextSink};
 use std::io::{self, Read, Write};
 
@@ -88,31 +86,10 @@ fn answer_lines(input: &[u8], to: &mut impl Write) -> io::Result<()> {
     Ok(())
 }
 
-fn letter_of(code: u32) -> u8 {
-    let Some(c) = char::from_u32(code) else {
-        return b'G';
-    };
-    let category = match GeneralCategory::for_char(c) {
-        GeneralCategory::Other => 0,
-        GeneralCategory::SpaceSeparator => 1,
-        GeneralCategory::LineSeparator => 2,
-        GeneralCategory::ParagraphSeparator => 3,
-        GeneralCategory::Control => 4,
-        GeneralCategory::Format => 5,
-        GeneralCategory::Surrogate => 6,
-        GeneralCategory::PrivateUse => 7,
-        GeneralCategory::Unassigned => 8,
-    };
-    category + if is_grapheme_extend(c) { b'J' } else { b'A' }
-}
-
 fn main() -> io::Result<()> {
     let mut input = Vec::new();
     let mut output = io::BufWriter::new(io::stdout().lock());
     match std::env::args().nth(1).as_deref() {
-        Some("characters") => {
-            output.write_all(&(0..0x11_0000).map(letter_of).collect::<Vec<_>>())?
-        }
         Some("records") => {
             io::stdin().read_to_end(&mut input)?;
             answer_records(&input, &mut output)?;
@@ -121,7 +98,7 @@ fn main() -> io::Result<()> {
             io::stdin().read_to_end(&mut input)?;
             answer_lines(&input, &mut output)?;
         }
-        _ => panic!("usage: answers records | lines | characters"),
+        _ => panic!("usage: answers records | lines"),
     }
     output.flush()
 }

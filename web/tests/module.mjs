@@ -3,7 +3,7 @@ import { spawnSync } from "node:child_process";
 import { createHash } from "node:crypto";
 import fs from "node:fs";
 import { createRequire } from "node:module";
-import { FOLDED, HOSTILE, HOSTILE_LINES, LOG, LOG_LINE, ODD, ODD_RESULT } from "./texts.mjs";
+import { BEFORE, FOLDED, HOSTILE, HOSTILE_LINES, LOG, LOG_LINE, ODD, ODD_RESULT } from "./texts.mjs";
 
 const require = createRequire(import.meta.url);
 const root = new URL("../../", import.meta.url).pathname;
@@ -13,7 +13,7 @@ const BUILT = `${root}crates/demangle_web/out/kodliwe.wasm`;
 
 const LETTERS = { n: "\n", r: "\r", t: "\t", "\\": "\\", "|": "|" };
 
-// Returns a field of the corpus without its escapes (docs/CORPUS.md).
+// Returns a field of the corpus without its escapes (tests/README.md).
 function plain(field) {
   return field.replace(/\\(x[0-9a-fA-F]{2}|u\{[0-9a-fA-F]+\}|[nrt\\|])/g, (_, it) =>
     LETTERS[it] ?? String.fromCodePoint(parseInt(it.replace(/^[xu]\{?/, ""), 16)));
@@ -73,7 +73,7 @@ function testFolding(it, check) {
 }
 
 // The SHA-256 of the corpus's folded paths, each with its hash and without it, and a line feed after either. The paths
-// come from the crate with the change that docs/DEFINITIONS_CHECKED.md describes.
+// come from the crate with the change that tests/README.md describes.
 const FOLDED_CORPUS = "1115a1606b838030f4d3de7343fa19ce82e129044f750537a7c938998f47f82c";
 
 // Folds each symbol of the corpus. The paths of 1,252 symbols then differ from those that are not folded.
@@ -104,8 +104,8 @@ function joined(it, text, options) {
 
 // The programs that the module is compared with, each with its options and those of the module.
 const COMPARED = [
-  ["with hashes", { hash: true }, "demangle_filter", []],
-  ["without hashes", { hash: false }, "demangle_filter", ["--no-hash"]],
+  ["with hashes", { hash: true }, "kodliwe", ["--hash"]],
+  ["without hashes", { hash: false }, "kodliwe", []],
   ["folded, with hashes", { hash: true, fold: true }, "kodliwe", ["--fold", "--hash"]],
   ["folded, without hashes", { hash: false, fold: true }, "kodliwe", ["--fold"]],
 ];
@@ -140,7 +140,7 @@ export async function testModule(check) {
   const compiled = new WebAssembly.Module(bytes);
   check("the module asks nothing of its page", imports(compiled).length === 0);
   const named = exports(compiled).map((one) => one.name).filter((one) => one.startsWith("kodliwe_")).sort();
-  check("its calls", named.join() === "kodliwe_demangle_folded,kodliwe_demangle_limited,kodliwe_demangle_text,kodliwe_demangle_text_folded,kodliwe_is_symbol,kodliwe_run_len,kodliwe_run_start", named.join(" "));
+  check("its calls", named.join() === "kodliwe_demangle_folded,kodliwe_demangle_limited,kodliwe_demangle_text,kodliwe_demangle_text_folded,kodliwe_is_symbol,kodliwe_plain_len,kodliwe_run_len,kodliwe_run_start", named.join(" "));
   const it = await kodliwe.load(bytes);
   check("a path", () => it.demangle("_ZN3foo17h05af221e174051e9E") === "foo");
   check("a path with its hash", () => it.demangle("_ZN3foo17h05af221e174051e9E", { hash: true }) === "foo::h05af221e174051e9");
@@ -148,6 +148,9 @@ export async function testModule(check) {
   check("no symbol", () => it.demangle("_ZN3foo") === null && it.demangle("é") === null && it.demangle("") === null);
   check("a hostile symbol ends at the limit", () => it.demangle(HOSTILE, { limit: 16384 }).length === 16384 + 20);
   check("a text that loses nothing", () => it.demangleText(ODD) === ODD_RESULT && joined(it, ODD, {}) === ODD_RESULT);
+  for (const [text, wanted] of BEFORE) {
+    check(`before a symbol: ${JSON.stringify(text)}`, () => it.demangleText(text) === wanted && joined(it, text, {}) === wanted);
+  }
   check("a text without symbols", () => it.demangleText("_R _ZN\r\n") === "_R _ZN\r\n" && it.demangleText("") === "");
   check("a text's limit", () => it.demangleText("a _ZN3foo3barE b", { limit: 4 }) === "a foo{size limit reached} b");
   for (const test of [testFolding, testCorpus, testFoldedCorpus, testBesideProgram]) {

@@ -11,7 +11,7 @@ const named = (n) => {
 
 export const LOG = Array.from({ length: 40000 }, (_, n) => `${n}: ${named(n)}\n`).join("");
 // Symbols with their paths, with folded generic arguments and a hash, and without the hash. The paths come from the
-// crate with the change that docs/DEFINITIONS_CHECKED.md describes.
+// crate with the change that tests/README.md describes.
 export const FOLDED = [
   ["_RINvC3foo3barhE", "foo::bar::<_>", "foo::bar::<_>"],
   ["_RNvMC3fooINtB2_3BarlE3baz", "<foo::Bar<_>>::baz", "<foo::Bar<_>>::baz"],
@@ -28,3 +28,12 @@ export const HOSTILE_LINE = `${HOSTILE} `.repeat(5000);
 // Characters that a text loses easily: halves of characters, NUL, both line ends, and a byte order mark.
 export const ODD = "\ufeffa\ud800 _ZN3foo3barE\udc00\r\n\0_RNvC3foo3bar\0\n\u{1f600}é _ZN3fooE\r";
 export const ODD_RESULT = "\ufeffa\ud800 foo::bar\udc00\r\n\0foo::bar\0\n\u{1f600}é foo\r";
+
+// Texts whose characters before a run matter, and their results.
+export const BEFORE = [
+  ["tag v1.0_RC0 SW_RC0.zip", "tag v1.0_RC0 SW_RC0.zip"],
+  [".text._ZN3fooE __imp__ZN3fooE é_ZN3fooE", ".text.foo __imp_foo éfoo"],
+  ["__ZN3fooE __RNvC3foo3bar\n__RC1a", "foo foo::bar\na"],
+  ["___ZN3fooE a__ZN3fooE .__RC1a __Rest", "__foo a_foo ._a __Rest"],
+  ["\ud800__RC1a a_RC1a", "\ud800a a_RC1a"],
+];

@@ -1,6 +1,8 @@
 """Tests the calls of kodliwe with the library that KODLIWE_LIB names. The expected paths are from the crate rustc-demangle."""
 
+import base64
 import doctest
+import hashlib
 import os
 import re
 import shutil
@@ -10,6 +12,8 @@ import sys
 import tempfile
 import threading
 import unittest
+import zipfile
+from unittest import mock
 
 HERE = os.path.dirname(os.path.abspath(__file__))
 MODULE = os.path.join(HERE, "..", "kodliwe.py")
@@ -153,12 +157,21 @@ class DemangleText(unittest.TestCase):
         self.assertEqual(kodliwe.demangle_text(b"\xff\0_ZN3fooE\xfe"), b"\xff\0foo\xfe")
         self.assertEqual(kodliwe.demangle_text("\udcff\ud800_ZN3fooEä"), "\udcff\ud800fooä")
 
+    def test_the_characters_before_a_symbol(self):
+        self.assertEqual(kodliwe.demangle_text("v1.0_RC0 SW_RC0.zip .text._ZN3fooE"), "v1.0_RC0 SW_RC0.zip .text.foo")
+        self.assertEqual(kodliwe.demangle_text("__ZN3fooE a__RC1a __Rest"), "foo a_a __Rest")
+
     def test_a_limit_is_each_symbols(self):
         self.assertEqual(kodliwe.demangle_text("_ZN3foo3barE _ZN1aE", limit=4), "foo{size limit reached} a")
 
     def test_a_long_text(self):
         count = 50_000
         self.assertEqual(kodliwe.demangle_text("x _RNvC3foo3bar\n" * count), "x foo::bar\n" * count)
+
+
+class Version(unittest.TestCase):
+    def test_it_says_how_the_library_was_built(self):
+        self.assertRegex(kodliwe.version(), r"\Akodliwe %s, (proved with Rattle|tested, not proved)\Z" % re.escape(kodliwe.__version__))
 
 
 class Calls(unittest.TestCase):
@@ -256,6 +269,42 @@ class Library(unittest.TestCase):
         for field, key in (("Name", "name"), ("Version", "version"), ("Summary", "description"), ("Requires-Python", "requires-python")):
             self.assertIn("\n%s: %s\n" % (field, project[key]), packing.METADATA)
         self.assertEqual((packing.NAME, packing.VERSION), (project["name"], kodliwe.__version__))
+
+
+class Packing(unittest.TestCase):
+    def test_the_wheel_has_the_named_library(self):
+        import packing
+
+        library = kodliwe._load()._name
+        with tempfile.TemporaryDirectory() as folder, mock.patch.dict(os.environ, KODLIWE_LIB=library):
+            name = packing.build_wheel(folder)
+            self.assertEqual(os.listdir(folder), [name])
+            self.assertEqual(name, "kodliwe-%s-py3-none-%s.whl" % (kodliwe.__version__, packing._platform()))
+            with zipfile.ZipFile(os.path.join(folder, name)) as wheel, open(library, "rb") as file:
+                self.assertEqual(wheel.read("kodliwe/" + packing.LIBRARY), file.read())
+                about, record = (wheel.read("%s/%s" % (packing.DIST_INFO, part)).decode() for part in ("WHEEL", "RECORD"))
+                self.assertEqual(about.splitlines()[2:], ["Root-Is-Purelib: false", "Tag: py3-none-" + packing._platform()])
+                self.assertEqual(sorted(line.split(",")[0] for line in record.splitlines()), sorted(wheel.namelist()))
+                for line in record.splitlines()[:-1]:
+                    place, digest, size = line.split(",")
+                    data = wheel.read(place)
+                    wanted = base64.urlsafe_b64encode(hashlib.sha256(data).digest()).rstrip(b"=").decode()
+                    self.assertEqual((digest, int(size)), ("sha256=" + wanted, len(data)))
+
+    def test_the_tag_of_each_system(self):
+        import packing
+
+        for system, name, machine, tag in (
+            ("linux", "linux-x86_64", "x86_64", "linux_x86_64"),
+            ("linux", "linux-aarch64", "aarch64", "linux_aarch64"),
+            ("win32", "win-amd64", "AMD64", "win_amd64"),
+            ("darwin", "macosx-10.9-x86_64", "x86_64", "macosx_10_9_x86_64"),
+            ("darwin", "macosx-10.9-universal2", "arm64", "macosx_11_0_arm64"),
+            ("darwin", "macosx-14.2-arm64", "arm64", "macosx_14_0_arm64"),
+        ):
+            with mock.patch("sys.platform", system), mock.patch("sysconfig.get_platform", lambda name=name: name):
+                with mock.patch("platform.machine", lambda machine=machine: machine):
+                    self.assertEqual(packing._platform(), tag)
 
 
 class Program(unittest.TestCase):

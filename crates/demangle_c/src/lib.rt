@@ -2,11 +2,11 @@
 //! include/kodliwe.h.
 #![tactic(auto)]
 
-ghost use Rattle.std.specs.Prelude.{◌≡◌, ◌+◌, ◌<◌, ◌≤◌, ◌↔◌, length, take, drop, IsTrue};
+ghost use Rattle.std.specs.Prelude.{◌≡◌, ◌+◌, ◌<◌, ◌≤◌, ◌↔◌, length, take, drop, codes, IsTrue};
 ghost use Prim.Native.Nat.{min};
 ghost use Rattle.std.specs.List.{concat};
 ghost use Rattle.rustc_demangle.specs.Cut.{size};
-ghost use Rattle.rustc_demangle.specs.Filtered.{filtered_in, filtered_within};
+ghost use Rattle.rustc_demangle.specs.Rewritten.{rewritten_in, rewritten_within};
 ghost use Rattle.rustc_demangle.specs.PathEnds.{path_len_of, handed_with_path_len};
 ghost use Rattle.rustc_demangle.specs.Slice.{overlay};
 ghost use Rattle.rustc_demangle.specs.Stripped.{stripped};
@@ -15,12 +15,14 @@ ghost use Rattle.demangle_c_string.specs.CString.{IsRustSymbol, path_in, printed
 
 #[cfg(test)]
 mod tests;
+mod version;
 
+use crate::version::VERSION;
 use demangle_c_string::{
     MAX_SIZE, put_nul, symbol_of, text_of, write_part, write_part_formatted, write_text,
     write_text_formatted,
 };
-use rustc_demangle::sink::SliceSink;
+use rustc_demangle::sink::{SliceSink, TextSink};
 use rustc_demangle::{Format, write_with_path_len};
 
 /// Writes a path from its byte `start` to memory, as far as the memory reaches. The path has
@@ -215,12 +217,12 @@ pub extern "C" fn kodliwe_demangle_text_folded(
     include_hash: bool,
     limit: usize,
 ) -> usize
-    ensures size { let filtered = filtered_in (folded include_hash (min limit MAX_SIZE)) text.now in
-        length filtered < usize.MAX → result ≡ length filtered + 1 }
-    ensures text { let filtered = filtered_in (folded include_hash (min limit MAX_SIZE)) text.now in
-        length filtered < usize.MAX →
-        out.new ≡ overlay out.old (c_string (length out.old) filtered) }
-    ensures past { usize.MAX ≤ length (filtered_in (folded include_hash (min limit MAX_SIZE)) text.now) →
+    ensures size { let rewritten = rewritten_in (folded include_hash (min limit MAX_SIZE)) text.now in
+        length rewritten < usize.MAX → result ≡ length rewritten + 1 }
+    ensures text { let rewritten = rewritten_in (folded include_hash (min limit MAX_SIZE)) text.now in
+        length rewritten < usize.MAX →
+        out.new ≡ overlay out.old (c_string (length out.old) rewritten) }
+    ensures past { usize.MAX ≤ length (rewritten_in (folded include_hash (min limit MAX_SIZE)) text.now) →
         result ≡ usize.MAX }
 {
     let format = Format::folded(include_hash, limit);
@@ -231,8 +233,10 @@ pub extern "C" fn kodliwe_demangle_text_folded(
 /// the number of bytes of that text and the 0.
 ///
 /// A candidate symbol starts at `_ZN` or `_R`. It ends before the next byte that is not an ASCII
-/// letter, a digit, `$`, `.` or `_`. Its path is cut as by `kodliwe_demangle_limited`. All other
-/// bytes stay unchanged.
+/// letter, a digit, `$`, `.` or `_`. Its path is cut as by `kodliwe_demangle_limited`. It stays
+/// directly after an ASCII letter or digit. A path also replaces a single `_` before its symbol, if
+/// that `_` is the first byte or follows a byte that no symbol may have. All other bytes stay
+/// unchanged.
 ///
 /// The result does not depend on the size of the memory. The memory receives as much of the text as
 /// fits before a 0, and no byte after the 0 is changed. The result is `usize::MAX` if the number is
@@ -245,13 +249,47 @@ pub extern "C" fn kodliwe_demangle_text(
     include_hash: bool,
     limit: usize,
 ) -> usize
-    ensures size { let filtered = filtered_within include_hash (min limit MAX_SIZE) text.now in
-        length filtered < usize.MAX → result ≡ length filtered + 1 }
-    ensures text { let filtered = filtered_within include_hash (min limit MAX_SIZE) text.now in
-        length filtered < usize.MAX →
-        out.new ≡ overlay out.old (c_string (length out.old) filtered) }
-    ensures past { usize.MAX ≤ length (filtered_within include_hash (min limit MAX_SIZE) text.now) →
+    ensures size { let rewritten = rewritten_within include_hash (min limit MAX_SIZE) text.now in
+        length rewritten < usize.MAX → result ≡ length rewritten + 1 }
+    ensures text { let rewritten = rewritten_within include_hash (min limit MAX_SIZE) text.now in
+        length rewritten < usize.MAX →
+        out.new ≡ overlay out.old (c_string (length out.old) rewritten) }
+    ensures past { usize.MAX ≤ length (rewritten_within include_hash (min limit MAX_SIZE) text.now) →
         result ≡ usize.MAX }
 {
     write_text(text, out, include_hash, limit)
+}
+
+/// Writes a text to memory, as far as the memory reaches.
+#[tactic(auto, using(demangle_c_string::proofs::NulTerminator::laid_part))]
+fn write_all(text: &str, out: &mut [u8])
+    ensures { out.new ≡ overlay out.old text.now }
+{
+    let mut sink = SliceSink::new(out);
+    let Ok(()) = sink.put(text) else {
+        unreachable!()
+    };
+}
+
+/// Writes a text to memory, with a 0 after it, or as much of it as fits before a 0.
+fn write_c_string(text: &str, out: &mut [u8])
+    ensures { out.new ≡ overlay out.old (c_string (length out.old) text.now) }
+{
+    write_all(text, out);
+    put_nul(out, text.len());
+}
+
+/// Writes the name and the version of the library to memory, and that it is proved, with a 0 after
+/// them. Returns the number of bytes of that text and the 0.
+///
+/// The result does not depend on the size of the memory. The memory receives as much of the text as
+/// fits before a 0, and no byte after the 0 is changed. The call does not allocate.
+#[unsafe(no_mangle)]
+pub extern "C" fn kodliwe_version(out: &mut [u8]) -> usize
+    ensures size { result ≡ length (codes "kodliwe 0.1.0, proved with Rattle") + 1 }
+    ensures text { out.new ≡
+        overlay out.old (c_string (length out.old) (codes "kodliwe 0.1.0, proved with Rattle")) }
+{
+    write_c_string(VERSION, out);
+    VERSION.len() + 1
 }

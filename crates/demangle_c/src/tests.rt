@@ -2,7 +2,7 @@
 use crate::{
     kodliwe_demangle, kodliwe_demangle_folded, kodliwe_demangle_limited, kodliwe_demangle_part,
     kodliwe_demangle_text, kodliwe_demangle_text_folded, kodliwe_is_symbol, kodliwe_path_len,
-    kodliwe_print_part, kodliwe_symbol_len,
+    kodliwe_print_part, kodliwe_symbol_len, kodliwe_version,
 };
 
 /// A symbol whose text doubles with each of 18 tuples, and so exceeds every limit.
@@ -245,6 +245,19 @@ fn a_text_keeps_all_but_its_symbols(rt: HostRuntime) {
 }
 
 #[test]
+fn the_bytes_before_a_symbol_of_a_text(rt: HostRuntime) {
+    let mut out = [9; 40];
+    let text = b"SW_RC0.zip .text._ZN3fooE __ZN3fooE a__RC1a";
+    assert_eq!(rt; kodliwe_demangle_text(text, &mut out, false, 1000), 29);
+    assert!(rt; out.starts_with(b"SW_RC0.zip .text.foo foo a_a\0\x09"));
+    assert_eq!(rt;
+        kodliwe_demangle_text_folded(text, &mut out, false, 1000),
+        29
+    );
+    assert!(rt; out.starts_with(b"SW_RC0.zip .text.foo foo a_a\0\x09"));
+}
+
+#[test]
 fn a_text_is_cut_where_the_memory_ends(rt: HostRuntime) {
     let mut out = [9; 8];
     assert_eq!(rt;
@@ -313,7 +326,8 @@ fn another_length_does_no_harm(rt: HostRuntime) {
     let symbol = b"_RNvC3foo3bar.a";
     for path_len in [0, 1, 14, 15, 16, usize::MAX] {
         let want = kodliwe_print_part(symbol, path_len, &mut part[..10], false, 1000, 0);
-        assert!(rt; want >= 9 && want <= 1036);
+        assert!(rt; want >= 9);
+        assert!(rt; want <= 1036);
     }
     assert_eq!(rt;
         kodliwe_print_part(b"_RNv\xFF", 4, &mut part[..10], false, 1000, 0),
@@ -324,4 +338,17 @@ fn another_length_does_no_harm(rt: HostRuntime) {
         21
     );
     assert!(rt; part[10..] == [9; 2]);
+}
+
+#[test]
+fn a_version_is_a_text(rt: HostRuntime) {
+    let mut out = [9; 60];
+    let want = kodliwe_version(&mut out);
+    assert!(rt; out.starts_with(b"kodliwe 0.1.0, "));
+    assert!(rt; out[want - 1] == 0 && out[want] == 9);
+    let mut cut = [9; 9];
+    assert_eq!(rt; kodliwe_version(&mut cut[..8]), want);
+    assert!(rt; cut == *b"kodliwe\0\x09");
+    assert_eq!(rt; kodliwe_version(&mut cut[..0]), want);
+    assert!(rt; cut == *b"kodliwe\0\x09");
 }

@@ -6,7 +6,7 @@ ghost use Rattle.std.specs.Prelude.{◌≡◌, ◌+◌, ◌<◌, ◌≤◌, ℕ,
 ghost use Prim.Native.Nat.{min};
 ghost use Rattle.std.specs.List.{concat};
 ghost use Rattle.rustc_demangle.specs.Cut.{size};
-ghost use Rattle.rustc_demangle.specs.Filtered.{filtered_in, filtered_within};
+ghost use Rattle.rustc_demangle.specs.Rewritten.{rewritten_in, rewritten_within};
 ghost use Rattle.rustc_demangle.specs.Slice.{overlay};
 ghost use Rattle.rustc_demangle.specs.Stripped.{stripped};
 ghost use Rattle.rustc_demangle.specs.Symbols.{handed_in};
@@ -14,6 +14,7 @@ ghost use Rattle.demangle_c_string.specs.CString.{IsRustSymbol, path_in, path_wi
 
 use rustc_demangle::sink::SliceSink;
 use rustc_demangle::{Demangle, Format, demangle_slice_formatted, try_demangle};
+use std::str;
 
 /// The most bytes that are printed for a symbol, without the marker and the suffix.
 pub const MAX_SIZE: usize = 1_000_000;
@@ -124,12 +125,12 @@ pub fn write_part_formatted(symbol: &[u8], out: &mut [u8], format: Format, start
 /// result is `usize::MAX` if the number is not smaller than that. The contents of the memory are
 /// then unspecified. The call does not allocate.
 pub fn write_text(text: &[u8], out: &mut [u8], include_hash: bool, limit: usize) -> usize
-    ensures size { let filtered = filtered_within include_hash (min limit MAX_SIZE) text.now in
-        length filtered < usize.MAX → result ≡ length filtered + 1 }
-    ensures text { let filtered = filtered_within include_hash (min limit MAX_SIZE) text.now in
-        length filtered < usize.MAX →
-        out.new ≡ overlay out.old (c_string (length out.old) filtered) }
-    ensures past { usize.MAX ≤ length (filtered_within include_hash (min limit MAX_SIZE) text.now) →
+    ensures size { let rewritten = rewritten_within include_hash (min limit MAX_SIZE) text.now in
+        length rewritten < usize.MAX → result ≡ length rewritten + 1 }
+    ensures text { let rewritten = rewritten_within include_hash (min limit MAX_SIZE) text.now in
+        length rewritten < usize.MAX →
+        out.new ≡ overlay out.old (c_string (length out.old) rewritten) }
+    ensures past { usize.MAX ≤ length (rewritten_within include_hash (min limit MAX_SIZE) text.now) →
         result ≡ usize.MAX }
 {
     let format = Format::unfolded(include_hash, limit);
@@ -140,14 +141,14 @@ pub fn write_text(text: &[u8], out: &mut [u8], include_hash: bool, limit: usize)
 /// number. A limit of the format above `MAX_SIZE` counts as `MAX_SIZE`.
 pub fn write_text_formatted(text: &[u8], out: &mut [u8], format: Format) -> usize
     ensures size { let capped = record format { limit = min format.limit MAX_SIZE } in
-        let filtered = filtered_in capped text.now in
-        length filtered < usize.MAX → result ≡ length filtered + 1 }
+        let rewritten = rewritten_in capped text.now in
+        length rewritten < usize.MAX → result ≡ length rewritten + 1 }
     ensures text { let capped = record format { limit = min format.limit MAX_SIZE } in
-        let filtered = filtered_in capped text.now in
-        length filtered < usize.MAX →
-        out.new ≡ overlay out.old (c_string (length out.old) filtered) }
+        let rewritten = rewritten_in capped text.now in
+        length rewritten < usize.MAX →
+        out.new ≡ overlay out.old (c_string (length out.old) rewritten) }
     ensures past { let capped = record format { limit = min format.limit MAX_SIZE } in
-        usize.MAX ≤ length (filtered_in capped text.now) → result ≡ usize.MAX }
+        usize.MAX ≤ length (rewritten_in capped text.now) → result ≡ usize.MAX }
 {
     let limit = format.limit.min(MAX_SIZE);
     let Some(len) = demangle_slice_formatted(text, out, Format { limit, ..format }) else {

@@ -273,6 +273,11 @@ no_element_E : (x : List ℕ) → element_of (69 ∷ x) ≡ None
 unfolding element_of
 no_element_E x = refl
 
+pub element_E : (s : List ℕ) (at : ℕ) → is_byte s at 69 ≡ true → element_of (drop at s) ≡ None
+element_E s at h =
+    let is : get_or s at 0 ≡ 69 = get_or_from_slice_get s at 69 0 (is_byte_there s at 69 h) in
+    at_drop_more element_of s at 0 (is_byte_within s at 69 h) ∙ ap (λ c. element_of (c ∷ drop (at + 1) s)) is ∙ no_element_E (drop (at + 1) s)
+
 pub parts_E : (x : List ℕ) → parts_of (69 ∷ x) ≡ ([], 69 ∷ x)
 parts_E x = parts_end (69 ∷ x) (no_element_E x)
 

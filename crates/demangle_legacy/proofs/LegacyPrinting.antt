@@ -46,7 +46,7 @@ elements_E s to h =
     let is = get_or_from_slice_get s to 69 0 (is_byte_there s to 69 h) in
     at_drop_more elements_of s to 0 (is_byte_within s to 69 h) ∙ ap (λ c. elements_of (c ∷ drop (to + 1) s)) is ∙ ap (λ (r : List (List ℕ) × List ℕ). r.0) (parts_E (drop (to + 1) s))
 
-none_there : IsSome {T = List ℕ} None → ⊥
+pub none_there : IsSome {T = List ℕ} None → ⊥
 none_there h = false≢true h
 
 -- and no other byte follows it
@@ -128,3 +128,9 @@ module _ (s : List ℕ) (hash : Bool) (at from to : ℕ) (legacy : IsSome (suffi
     hidden false false is a b c e = absurd (false≢true e)
     hidden false true false a b c e = absurd (false≢true e)
     hidden false true true a b c e = ap (left_pieces hash at) (elements_more s at from to element) ∙ left_hash hash at (slice_range s from to) (elements_of (drop to s)) (sym a) (sym c) (elements_E s to (sym b))
+
+-- an element that is omitted is followed by an `E`
+pub omitted_E : (hash last is : Bool) → (not hash && (last && is)) ≡ true → last ≡ true
+omitted_E true last is e = absurd (false≢true e)
+omitted_E false true is e = refl
+omitted_E false false is e = absurd (false≢true e)

@@ -9,7 +9,7 @@ use Rattle.demangle_legacy.specs.Legacy.{inner_of, element_of, parts_within, par
 use Rattle.demangle_legacy.specs.Unescaped.{escape_of_digits, escape_of, leading_unit, pieces_from, unescaped, printed_elements, legacy_pieces}
 
 abbrev text : Bool → List ℕ → Option (List ℕ)
-text hash symbol = option_map (λ read. concat (legacy_pieces hash read.0) ++ read.1) (legacy_of symbol)
+text hash symbol = option_map (λ read. concat (legacy_pieces (record { include_hash = hash; fold_arguments = false }) read.0) ++ read.1) (legacy_of symbol)
 
 -- a symbol, and the text of both forms
 abbrev same : List (String × String)

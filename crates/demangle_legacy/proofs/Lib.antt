@@ -1,3 +1,4 @@
+pub mod HexadecimalDigits
 pub mod LegacyElements
 pub mod LegacyEscapes
 pub mod LegacyLaws

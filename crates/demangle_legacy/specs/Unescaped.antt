@@ -5,6 +5,7 @@ use Rattle.std.specs.Char.{is_ascii_hexdigit, is_control}
 use Rattle.std.specs.Int.{is_in_range}
 use Rattle.demangle_symbol.specs.Digits.{number}
 use lib.Utf8.{scalar as is_scalar}
+use Rattle.demangle_symbol.specs.declared.form.Form.{Form}
 
 -- '$'
 abbrev pub is_dollar : ℕ → Bool
@@ -82,5 +83,5 @@ joined_pieces [] = []
 joined_pieces (e ∷ es) = unescaped e ++ following_pieces es
 
 -- the pieces of a legacy symbol, with the hash or without it
-abbrev pub legacy_pieces : Bool → List (List ℕ) → List (List ℕ)
-legacy_pieces hash elements = joined_pieces (printed_elements hash elements)
+abbrev pub legacy_pieces : Form → List (List ℕ) → List (List ℕ)
+legacy_pieces form elements = joined_pieces (printed_elements form.include_hash elements)

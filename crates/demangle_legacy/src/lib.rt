@@ -1,15 +1,18 @@
 //! Parses and prints legacy symbols: `_ZN`, then elements after their lengths, then `E`.
 #![tactic(auto)]
 
-ghost use Rattle.std.specs.Prelude.{◌≡◌, ◌+◌, ◌-◌, ◌*◌, ◌≤◌, IfOk, IfSome, IfNone, OnErr, Some, None, IsTrue, IsAscii, false, length, option_map};
+ghost use Rattle.std.specs.Prelude.{◌≡◌, ◌+◌, ◌-◌, ◌*◌, ◌≤◌, IfOk, IfSome, IfNone, OnErr, Some, None, Ok, IsTrue, IsAscii, false, length, option_map};
 ghost use Rattle.demangle_legacy.specs.Legacy.{legacy_of, elements_of, inner_of};
+ghost use Rattle.demangle_legacy.specs.Unescaped.{legacy_pieces};
+ghost use Rattle.demangle_sink.specs.Limit.{Prints, Ready};
 
+use demangle_sink::{SizeLimitedFmtAdapter, TextSink};
 use demangle_symbol::cursor::{Looks, Symbol};
+use demangle_symbol::form::Form;
 
 mod elements;
+mod hexadecimal;
 mod printing;
-#[cfg(test)]
-mod tests;
 mod units;
 mod value;
 
@@ -87,4 +90,33 @@ pub fn demangle<'s>(
         return Err(());
     };
     Ok((Demangle::new(symbol), &inner[end..]))
+}
+
+/// Parses a legacy symbol and prints its elements, in one pass, and counts its looks. Returns the
+/// symbol and the suffix after its `E`. The hash is omitted unless `form` includes it. The text
+/// must be ASCII.
+///
+/// Returns `None` if the text is not a legacy symbol, or if the sink or the limit rejects a piece.
+/// Then an unknown part of it may be printed, and `demangle` says whether the text is a symbol.
+pub fn demangle_printed<'s, S: TextSink>(
+    s: &'s str,
+    out: &mut SizeLimitedFmtAdapter<'_, S>,
+    form: Form,
+    looks: &mut Looks,
+) -> Option<(Demangle<'s>, &'s str)>
+    requires ascii { IsAscii s.now }
+    requires ready { Ready S.TextSink out.old }
+    ensures some { IfSome result (λ r. legacy_of s.now ≡ Some (elements_of r.0, r.1.now)) }
+    ensures prints { IfSome result (λ r. Prints S.TextSink out.old
+        (legacy_pieces form (elements_of r.0)) (Ok tt) out.new) }
+    ensures suffix { IfSome result (λ r. length r.1.now ≤ length s.now) }
+    ensures grows { looks.old ≤ looks.new }
+    ensures most { looks.new ≤ looks.old + 17 * (length s.now + 1) }
+{
+    let inner = ascii_inner_of(s, true, looks)?;
+    let symbol = Symbol::new(inner);
+    let Ok(Some(end)) = value::print_elements(&symbol, out, form, looks) else {
+        return None;
+    };
+    Some((Demangle::new(symbol), &inner[end..]))
 }

@@ -1,13 +1,46 @@
 //! Prints an element of a legacy symbol.
-ghost use Rattle.std.specs.Prelude.{◌≡◌, ◌+◌, ◌-◌, ◌*◌, ◌≤◌, ◌&&◌, not, [], ◌∷◌, IsAscii, length, slice_range};
+ghost use Rattle.std.specs.Prelude.{◌≡◌, ◌+◌, ◌-◌, ◌*◌, ◌^◌, ◌<◌, ◌≤◌, ◌&&◌, not, [], ◌∷◌, IsAscii, IsTrue, length, slice_range};
+ghost use Rattle.std.specs.List.{list_all};
+ghost use Rattle.std.specs.Char.{is_ascii_hexdigit};
 ghost use Rattle.demangle_symbol.specs.Digits.{is_byte};
 ghost use Rattle.demangle_sink.specs.Limit.{Prints, Ready};
 ghost use Rattle.demangle_legacy.specs.Unescaped.{is_hash, pieces_from, unescaped};
 ghost use Rattle.demangle_legacy.specs.Units.{text_of_unit};
 
+use crate::hexadecimal::are_hexadecimal;
 use crate::units::{Unit, unit_at};
 use demangle_sink::{SinkRefused, SizeLimitedFmtAdapter, TextSink};
-use demangle_symbol::cursor::{Looks, Part, Symbol};
+use demangle_symbol::cursor::{Looks, Part, Symbol, WINDOW};
+use demangle_symbol::form::Form;
+
+/// Returns `true` if all bytes of a part are hexadecimal digits.
+///
+/// Digits of either case and any number of them are accepted, as in the Rust crate.
+#[tactic(auto, using(crate::proofs::LegacyUnits::hash_steps))]
+fn has_only_digits(symbol: &Symbol<'_>, part: Part, looks: &mut Looks) -> bool
+    requires order { part.from ≤ part.to }
+    requires inside { part.to ≤ length symbol.now }
+    ensures digits { result ≡ list_all is_ascii_hexdigit (slice_range symbol.now part.from part.to) }
+    ensures grows { looks.old ≤ looks.new }
+    ensures most { looks.new ≤ looks.old + (part.to - part.from) }
+{
+    // rustc writes as many digits as a window has bytes.
+    if part.to - part.from == WINDOW {
+        let Some(bytes) = symbol.window(part.from, looks) else {
+            return false;
+        };
+        return are_hexadecimal(bytes);
+    }
+    for at in part.from..part.to {
+        let Some(byte) = symbol.byte(at, looks) else {
+            return false;
+        };
+        if !byte.is_ascii_hexdigit() {
+            return false;
+        }
+    }
+    true
+}
 
 /// Returns `true` if an element is `h` followed only by hexadecimal digits.
 #[tactic(auto, using(crate::proofs::LegacyUnits::hash_steps))]
@@ -23,34 +56,25 @@ fn is_hash(symbol: &Symbol<'_>, element: Part, looks: &mut Looks) -> bool
     if !symbol.is_at(b'h', element.from, looks) {
         return false;
     }
-    for at in element.from + 1..element.to {
-        let Some(byte) = symbol.byte(at, looks) else {
-            return false;
-        };
-        // Digits of either case and any number of them are accepted, as in the Rust crate. rustc
-        // writes 16 lower case digits.
-        if !byte.is_ascii_hexdigit() {
-            return false;
-        }
-    }
-    true
+    let digits = Part {
+        from: element.from + 1,
+        to: element.to,
+    };
+    has_only_digits(symbol, digits, looks)
 }
 
 /// Returns `true` if an element is omitted: the form has no hash, and the element is the last one
 /// and is a hash.
-pub(super) fn is_omitted(
-    symbol: &Symbol<'_>,
-    element: Part,
-    include_hash: bool,
-    looks: &mut Looks,
-) -> bool
+pub(super) fn is_omitted(symbol: &Symbol<'_>, element: Part, form: Form, looks: &mut Looks) -> bool
     requires { element.to ≤ length symbol.now }
-    ensures hash { result ≡ (not include_hash && (is_byte symbol.now element.to 69 && is_hash
+    ensures hash { result ≡ (not form.include_hash && (is_byte symbol.now element.to 69 && is_hash
         (slice_range symbol.now element.from element.to))) }
+    ensures inside { IsTrue result →
+        (element.to < length symbol.now) × (length symbol.now < 2 ^ 64) }
     ensures grows { looks.old ≤ looks.new }
     ensures most { looks.new ≤ looks.old + (element.to - element.from + 1) }
 {
-    !include_hash && symbol.is_at(b'E', element.to, looks) && is_hash(symbol, element, looks)
+    !form.include_hash && symbol.is_at(b'E', element.to, looks) && is_hash(symbol, element, looks)
 }
 
 /// Puts the text of the unit that these bytes spell.

@@ -10,8 +10,6 @@ mod fmt_sink;
 mod limit;
 mod pieces;
 mod slice_sink;
-#[cfg(test)]
-mod tests;
 mod write_sink;
 
 pub use array_sink::ArraySink;

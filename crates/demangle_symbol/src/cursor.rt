@@ -7,19 +7,20 @@ ghost use Rattle.demangle_sink.specs.Limit.{Prints, Ready};
 
 use demangle_sink::{SinkRefused, SizeLimitedFmtAdapter, TextSink};
 use std::marker::Model;
+use std::str;
 
 mod hex;
 mod ident;
 mod looks;
 mod primitives;
-#[cfg(test)]
-mod tests;
+mod window;
 
 pub use hex::MAX_NIBBLES;
 pub(crate) use hex::nibble_of;
 pub use ident::Ident;
 pub use looks::Looks;
 pub use primitives::MAX_DEPTH;
+pub use window::WINDOW;
 
 /// The reason for which a symbol could not be parsed. The variants have the names of the Rust
 /// crate.
@@ -50,7 +51,7 @@ impl<'s> Model for Symbol<'s> {
     ghost view = { λ s. s.inner.now };
 }
 
-/// The text of a part of a symbol. It can only be measured or put into a sink.
+/// The text of a part of a symbol. It can only be put into a sink.
 #[derive(Drop)]
 pub struct Span<'s> {
     text: &'s str,
@@ -65,13 +66,6 @@ impl<'s> Model for Span<'s> {
 }
 
 impl<'s> Span<'s> {
-    /// Returns the number of bytes.
-    pub fn len(&self) -> usize
-        ensures { result ≡ length self.now }
-    {
-        self.text.len()
-    }
-
     /// Puts the text into a sink as one piece. It makes no look.
     ///
     /// # Errors
@@ -133,16 +127,18 @@ impl<'s> Symbol<'s> {
         all
     }
 
-    /// Returns the text of a part, to be measured or put into a sink. It makes no look.
+    /// Returns the text of a part, to be put into a sink. It makes no look.
+    #[inline(always)]
     pub fn span(&self, part: Part) -> Span<'s>
         requires ascii { IsAscii self.now }
         requires order { part.from ≤ part.to }
         requires inside { part.to ≤ length self.now }
         ensures { result ≡ slice_range self.now part.from part.to }
     {
-        Span {
-            text: &self.inner[part.from..part.to],
-        }
+        let bytes = &self.inner.as_bytes()[part.from..part.to];
+        // SAFETY: the symbol is ASCII, and so is each part of it.
+        let text = unsafe { str::from_utf8_unchecked(bytes) };
+        Span { text }
     }
 
     /// Returns `true` if the byte at a place is `byte`. It makes one look.
@@ -165,6 +161,7 @@ impl<'s> Symbol<'s> {
     ///
     /// Returns `Invalid` if there is no digit at the place, or if a `usize` cannot hold the number.
     #[tactic(auto, using(crate::proofs::Digits::decimal_steps))]
+    #[inline(always)]
     pub fn decimal(&self, place: usize, looks: &mut Looks) -> Result<(usize, usize), ParseError>
         ensures ok { IfOk result (λ r. Decimal self.now place r.1 r.0) }
         ensures err { OnErr result ((j v : ℕ) → v < 2 ^ 64 → Decimal self.now place j v → ⊥) }
@@ -174,7 +171,19 @@ impl<'s> Symbol<'s> {
         ensures err_looks { OnErr result (looks.new ≤ looks.old + (length self.now - place + 1)) }
         ensures within { IfOk result (λ r. (place < r.1) × (r.1 ≤ length self.now)) }
     {
-        self.decimal_from(0, place, place, looks)
+        let Some(first) = self.digit(place, looks) else {
+            return Err(ParseError::Invalid);
+        };
+        // Most lengths are below 100, so two digits are read without a loop.
+        let one = usize::from(first);
+        let Some(second) = self.digit(place + 1, looks) else {
+            return Ok((one, place + 1));
+        };
+        let two = one * 10 + usize::from(second);
+        let Some(third) = self.digit(place + 2, looks) else {
+            return Ok((two, place + 2));
+        };
+        self.decimal_from(two * 10 + usize::from(third), place, place + 3, looks)
     }
 
     /// Reads the remaining digits of a decimal number and returns it with the place after them. The

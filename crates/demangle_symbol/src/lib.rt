@@ -3,5 +3,6 @@
 #![tactic(auto)]
 
 pub mod cursor;
+pub mod form;
 pub mod literal;
 pub mod punycode;

@@ -10,8 +10,6 @@ use demangle_sink::{SinkRefused, SizeLimitedFmtAdapter, TextSink, put_char, put_
 use unicode::properties::{GeneralCategory, is_grapheme_extend};
 
 mod strings;
-#[cfg(test)]
-mod tests;
 
 pub use strings::{is_string, put_string_literal};
 

@@ -8,8 +8,6 @@ use crate::cursor::{Ident, Looks, Part, Symbol};
 use arrayvec::ArrayVec;
 
 mod printing;
-#[cfg(test)]
-mod tests;
 
 /// The most characters that a decoded name may have.
 pub const SMALL_PUNYCODE_LEN: usize = 128;

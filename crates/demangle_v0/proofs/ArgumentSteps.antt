@@ -42,7 +42,7 @@ told b i = go (is_byte b i (code "L")) (is_byte b i (code "K")) refl refl
 
 module _ {V : Type 0} (e : Env V) (s : State) where
   abbrev about : Context
-  about = context_at e.symbol e.form.fold_arguments e.output.is_printed s.depth_left s.lifetimes
+  about = context_at e.symbol e.form e.output.is_printed s.depth_left s.lifetimes
 
   abbrev next : Items
   next = more ", " argument (print_str ">" done)
@@ -53,7 +53,7 @@ module _ {V : Type 0} (e : Env V) (s : State) where
 
   list_so : (first : Bool) (i : Place) → HasNoError first → trace_of_state e.symbol e.form e.output.is_printed (arguments_continuation first) (record s { place = i }) ≡ shut_at e (trace_left first ", " argument (print_str ">" done) next) s i
   unfolding trace_at
-  list_so true i w = ap with_closed_bracket (unfolded e.form.include_hash (print_str ">" done) about i w)
+  list_so true i w = ap with_closed_bracket (unfolded e.form (print_str ">" done) about i w)
   list_so false i w = refl
 
   -- an argument, and the items after it
@@ -65,17 +65,17 @@ module _ {V : Type 0} (e : Env V) (s : State) where
     where
       go : (x y : Bool) → is_byte e.symbol i (code "L") ≡ x → is_byte e.symbol i (code "K") ≡ y → followed (open_at e argument s (Some i)) k
           ≡ with_looks (argument_costs e.symbol i) (followed (trace_of_state e.symbol e.form e.output.is_printed (argument_continuation e.symbol i) (record s { in_value = false; place = Some (argument_place e.symbol i) })) k)
-      go true y p q = rw p (ap (λ (h : Trace). followed h k) (argument_lifetime e.form.include_hash e.output.is_printed about i p))
-      go false true p q = rw (p, q) (argument_constant e.form.include_hash e.output.is_printed about i k p q)
-      go false false p q = rw (p, q) (argument_type e.form.include_hash e.output.is_printed about i k p q)
+      go true y p q = rw p (ap (λ (h : Trace). followed h k) (argument_lifetime e.form e.output.is_printed about i p))
+      go false true p q = rw (p, q) (argument_constant e.form e.output.is_printed about i k p q)
+      go false false p q = rw (p, q) (argument_type e.form e.output.is_printed about i k p q)
 
   -- the next argument of a list, after the look for its end
   pub arguments_trace : (first : Bool) (z : Items) (i : ℕ) → Fits continuation.NextArgument s.depth_left s.lifetimes → is_byte e.symbol i (code "E") ≡ false → open_at e (trace_left first ", " argument z (more ", " argument z)) s (Some i)
       ≡ with_looks (1 ∷ []) (with_texts e.output.is_printed (pending_texts (separator first fixed.Comma)) (with_looks (argument_costs e.symbol i)
       (followed (trace_of_state e.symbol e.form e.output.is_printed (argument_continuation e.symbol i) (record s { in_value = false; place = Some (argument_place e.symbol i) })) (open_at e (more ", " argument z) s))))
-  arguments_trace true z i f h = on_trace e s true ", " fixed.Comma refl argument z (more ", " argument z) i (argument_element e.symbol e.form.fold_arguments e.output.is_printed s.depth_left s.lifetimes (omega (arith, f))) h ∙ ap (with_looks (1 ∷ [])) (argument_reads i (open_at e (more ", " argument z) s))
+  arguments_trace true z i f h = on_trace e s true ", " fixed.Comma refl argument z (more ", " argument z) i (argument_element e.symbol e.form e.output.is_printed s.depth_left s.lifetimes (omega (arith, f))) h ∙ ap (with_looks (1 ∷ [])) (argument_reads i (open_at e (more ", " argument z) s))
   arguments_trace false z i f h =
-      on_trace e s false ", " fixed.Comma refl argument z (more ", " argument z) i (argument_element e.symbol e.form.fold_arguments e.output.is_printed s.depth_left s.lifetimes (omega (arith, f))) h
+      on_trace e s false ", " fixed.Comma refl argument z (more ", " argument z) i (argument_element e.symbol e.form e.output.is_printed s.depth_left s.lifetimes (omega (arith, f))) h
       ∙ ap (λ (h : Trace). with_looks (1 ∷ []) (with_texts e.output.is_printed (text fixed.Comma ∷ []) h)) (argument_reads i (open_at e (more ", " argument z) s))
 
 module _ {V : Type 0} {e : Env V} where

@@ -62,26 +62,26 @@ unit_trait b form v c n = record { same = λ left t. refl; light = omega arith; 
 module _ {V : Type 0} (output : Ghosts V) (b : List ℕ) (form : Form) where
   abbrev led : Bool → ℕ → Kind → Bool → ℕ → BackrefOutcome → Trace
   led out left k v n (NotFollowed m) = with_texts out (text m ∷ []) (empty_trace None false)
-  led out left k v n (Target t j) = if out then and_then (of form.include_hash true (level_of b form.fold_arguments (levels b form.fold_arguments (left - 1)) true k v n t)) (λ i o. empty_trace (Some j) o) else empty_trace (Some j) false
+  led out left k v n (Target t j) = if out then and_then (of form true (level_of b form.fold_arguments (levels b form.fold_arguments (left - 1)) true k v n t)) (λ i o. empty_trace (Some j) o) else empty_trace (Some j) false
 
   target_trace : (left : ℕ) (k : Kind) (v : Bool) (n : ℕ) (i : Place) (r : BackrefOutcome) → r ≡ (read_backref b left i).refers
-      → of form.include_hash output.is_printed (parse (target k v) (context_at b form.fold_arguments output.is_printed left n) i) ≡ with_looks (read_backref b left i).costs (led output.is_printed left k v n r)
+      → of form output.is_printed (parse (target k v) (context_at b form output.is_printed left n) i) ≡ with_looks (read_backref b left i).costs (led output.is_printed left k v n r)
   unfolding parse levels
   target_trace left k v n None r e = rw e refl
   target_trace left k v n (Some i) r e = go (backref_at b i) ∙ ap (λ (z : BackrefOutcome). with_looks (read_backref b left (Some i)).costs (led output.is_printed left k v n z)) (sym e)
     where
-      last : (out : Bool) (left a j : ℕ) → of form.include_hash out (target_of (levels b form.fold_arguments left) (λ level. target_read out (level true k v n) a (Some j))) ≡ led out left k v n (leads left a j)
+      last : (out : Bool) (left a j : ℕ) → of form out (target_of (levels b form.fold_arguments left) (λ level. target_read out (level true k v n) a (Some j))) ≡ led out left k v n (leads left a j)
       last out zero a j = refl
       last false (suc left) a j = refl
       last true (suc left) a j = rw sub-one refl
 
-      go : (r : Read ℕ) → of form.include_hash output.is_printed (primitive_outcome (length b) i (λ a j. target_of (levels b form.fold_arguments left) (λ level. target_read output.is_printed (level true k v n) a j)) r)
+      go : (r : Read ℕ) → of form output.is_printed (primitive_outcome (length b) i (λ a j. target_of (levels b form.fold_arguments left) (λ level. target_read output.is_printed (level true k v n) a j)) r)
           ≡ with_looks (reference_read (length b) left i r).costs (led output.is_printed left k v n (reference_read (length b) left i r).refers)
       go None = refl
       go (Some r) = ap (with_looks (4 * (r.1 - i + 1) ∷ [])) (last output.is_printed left r.0 r.1)
 
   abbrev target_at : Bool → ℕ → Kind → Bool → ℕ → Place → Trace
-  target_at closed left k v n i = none_open_if closed (of form.include_hash output.is_printed (parse (target k v) (context_at b form.fold_arguments output.is_printed left n) i))
+  target_at closed left k v n i = none_open_if closed (of form output.is_printed (parse (target k v) (context_at b form output.is_printed left n) i))
 
   shut_trace : (closed : Bool) (left : ℕ) (k : Kind) (v : Bool) (n : ℕ) (i : Place) (r : BackrefOutcome) → r ≡ (read_backref b left i).refers → target_at closed left k v n i ≡ with_looks (read_backref b left i).costs (none_open_if closed (led output.is_printed left k v n r))
   shut_trace closed left k v n i r e = ap (none_open_if closed) (target_trace left k v n i r e) ∙ shut_allowing closed (read_backref b left i).costs (led output.is_printed left k v n r)
@@ -135,7 +135,7 @@ module _ {V : Type 0} {e : Env V} where
       text_step p ks [] (omega (arith, refer_few e.symbol s.depth_left s.place)) (Some (frame_of continuation.AfterBackref s.in_value s.letter s.depth_left j))
       (shut_trace e.output e.symbol e.form closed s.depth_left k v s.lifetimes s.place (Target a j) r
       ∙ (ap (λ (z : Bool). with_looks ks (none_open_if closed (led e.output e.symbol e.form z s.depth_left k v s.lifetimes (Target a j)))) q
-      ∙ (ap (with_looks ks) (shut_after closed (of e.form.include_hash true (level_of e.symbol e.form.fold_arguments (levels e.symbol e.form.fold_arguments (s.depth_left - 1)) true k v s.lifetimes a)) j)
+      ∙ (ap (with_looks ks) (shut_after closed (of e.form true (level_of e.symbol e.form.fold_arguments (levels e.symbol e.form.fold_arguments (s.depth_left - 1)) true k v s.lifetimes a)) j)
       ∙ (ap (λ (h : Trace). with_looks ks (and_then h (λ i o. empty_trace (Some j) o))) (sym (unit.same (s.depth_left - 1) a))
       ∙ (ap (λ (z : Bool). with_looks ks (and_then (trace_at e.symbol e.form z p s.in_value s.letter (s.depth_left - 1) s.lifetimes (Some a) false) (λ i o. empty_trace (Some j) o))) (sym q)
       ∙ rw can_step.no_pending_text refl)))))

@@ -35,7 +35,7 @@ OfList e first l = Listed e (list_point first l) (element_continuation l) (after
 module _ {V : Type 0} (e : Env V) where
   field_units : Units e (element_continuation list.Fields) (λ _. true) (list_element list.Fields)
   unfolding trace_at
-  field_units = record { at = λ s i m. refl; element = λ left n. field_element e.symbol e.form.fold_arguments e.output.is_printed left n; within = record { light = omega arith; low = λ left. omega arith; fits = λ left n f. f } }
+  field_units = record { at = λ s i m. refl; element = λ left n. field_element e.symbol e.form e.output.is_printed left n; within = record { light = omega arith; low = λ left. omega arith; fits = λ left n f. f } }
 
   pub constants : (first : Bool) (l : ConstantList) → OfList e first l
   unfolding trace_at

@@ -21,6 +21,6 @@ Inside e p q = (v : Bool) (c left n : ℕ) (i : Place) (o : Bool) → trace_at e
 
 module _ {V : Type 0} (output : Ghosts V) (b : List ℕ) (form : Form) where
   -- a production that is the last item
-  pub last_unit : (p : Items) (left n : ℕ) (i : Place) → with_closed_bracket (of form.include_hash output.is_printed (parse (unit p done) (context_at b form.fold_arguments output.is_printed left n) i)) ≡ with_closed_bracket (of form.include_hash output.is_printed (parse p (context_at b form.fold_arguments output.is_printed left n) i))
+  pub last_unit : (p : Items) (left n : ℕ) (i : Place) → with_closed_bracket (of form output.is_printed (parse (unit p done) (context_at b form output.is_printed left n) i)) ≡ with_closed_bracket (of form output.is_printed (parse p (context_at b form output.is_printed left n) i))
   unfolding parse
-  last_unit p left n i = let o = parse p (context_at b form.fold_arguments output.is_printed left n) i in ap (λ xs. record { events = xs; place = o.place; is_bracket_open = false }) (append-nil (events form.include_hash output.is_printed o.tree))
+  last_unit p left n i = let o = parse p (context_at b form output.is_printed left n) i in ap (λ xs. record { events = xs; place = o.place; is_bracket_open = false }) (append-nil (events form.include_hash output.is_printed o.tree))

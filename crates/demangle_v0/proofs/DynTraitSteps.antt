@@ -78,44 +78,44 @@ first_text false = refl
 
 module _ {V : Type 0} (e : Env V) (s : State) where
   abbrev about : Context
-  about = context_at e.symbol e.form.fold_arguments e.output.is_printed s.depth_left s.lifetimes
+  about = context_at e.symbol e.form e.output.is_printed s.depth_left s.lifetimes
 
   -- a frame that the state makes
   abbrev frame_rest : Continuation → Place → Bool → Trace
   frame_rest p = trace_of_frame e.symbol e.form e.output.is_printed (frame_at p s)
 
   -- a dyn trait, and further ones
-  trait_then : (i : ℕ) → followed (open_at e (dyn_trait binding_value) s (Some i)) (shut_at e next_traits s) ≡ and_then (of e.form.include_hash e.output.is_printed (unit_outcome about a_trait_path false (Some i))) (frame_rest continuation.Bindings)
+  trait_then : (i : ℕ) → followed (open_at e (dyn_trait binding_value) s (Some i)) (shut_at e next_traits s) ≡ and_then (of e.form e.output.is_printed (unit_outcome about a_trait_path false (Some i))) (frame_rest continuation.Bindings)
   unfolding parse trace_at
-  trait_then i = and_then_assoc (of e.form.include_hash e.output.is_printed (unit_outcome about a_trait_path false (Some i))) (λ j o. open_at e (bindings o binding_value) s j) (λ j _. shut_at e next_traits s j)
+  trait_then i = and_then_assoc (of e.form e.output.is_printed (unit_outcome about a_trait_path false (Some i))) (λ j o. open_at e (bindings o binding_value) s j) (λ j _. shut_at e next_traits s j)
 
   trait_trace : (first : Bool) (i : ℕ) → Fits continuation.NextDynTrait s.depth_left s.lifetimes → is_byte e.symbol i (code "E") ≡ false → shut_at e (left_traits first) s (Some i)
-      ≡ with_looks (1 ∷ []) (with_texts e.output.is_printed (pending_texts (separator first fixed.Plus)) (and_then (of e.form.include_hash e.output.is_printed (unit_outcome about a_trait_path false (Some i))) (frame_rest continuation.Bindings)))
-  trait_trace true i f h = ap with_closed_bracket (on_trace e s true " + " fixed.Plus refl (dyn_trait binding_value) done next_traits i (dyn_trait_element e.symbol e.form.fold_arguments e.output.is_printed s.depth_left s.lifetimes (omega (arith, f))) h) ∙ ap (with_looks (1 ∷ [])) (trait_then i)
+      ≡ with_looks (1 ∷ []) (with_texts e.output.is_printed (pending_texts (separator first fixed.Plus)) (and_then (of e.form e.output.is_printed (unit_outcome about a_trait_path false (Some i))) (frame_rest continuation.Bindings)))
+  trait_trace true i f h = ap with_closed_bracket (on_trace e s true " + " fixed.Plus refl (dyn_trait binding_value) done next_traits i (dyn_trait_element e.symbol e.form e.output.is_printed s.depth_left s.lifetimes (omega (arith, f))) h) ∙ ap (with_looks (1 ∷ [])) (trait_then i)
   trait_trace false i f h =
-      ap with_closed_bracket (on_trace e s false " + " fixed.Plus refl (dyn_trait binding_value) done next_traits i (dyn_trait_element e.symbol e.form.fold_arguments e.output.is_printed s.depth_left s.lifetimes (omega (arith, f))) h)
+      ap with_closed_bracket (on_trace e s false " + " fixed.Plus refl (dyn_trait binding_value) done next_traits i (dyn_trait_element e.symbol e.form e.output.is_printed s.depth_left s.lifetimes (omega (arith, f))) h)
       ∙ ap (λ (h : Trace). with_looks (1 ∷ []) (with_texts e.output.is_printed (text fixed.Plus ∷ []) h)) (trait_then i)
 
   -- Paths of dyn traits.
 
   refers_reads : (i : ℕ) → s.place ≡ Some i → is_byte e.symbol i (code "B") ≡ true → trace_of_state e.symbol e.form e.output.is_printed continuation.TraitPath s ≡ with_looks (1 ∷ []) (open_at e (target a_trait_path false) s (Some (i + 1)))
   unfolding trace_at
-  refers_reads i at h = rw at (trait_path_reads e.form.include_hash e.form.fold_arguments e.output.is_printed e.symbol s.depth_left s.lifetimes false i ∙ trait_path_refers e.form.include_hash e.form.fold_arguments e.output.is_printed e.symbol s.depth_left s.lifetimes i h)
+  refers_reads i at h = rw at (trait_path_reads e.form e.output.is_printed e.symbol s.depth_left s.lifetimes false i ∙ trait_path_refers e.form e.output.is_printed e.symbol s.depth_left s.lifetimes i h)
 
   generic_reads : (i : ℕ) → s.place ≡ Some i → is_byte e.symbol i (code "B") ≡ false → is_byte e.symbol i (code "I") ≡ true
       → trace_of_state e.symbol e.form e.output.is_printed continuation.TraitPath s
-      ≡ with_looks (1 ∷ 1 ∷ []) (and_then (with_closed_bracket (of e.form.include_hash e.output.is_printed (unit_outcome about a_path false (Some (i + 1))))) (trace_of_frame e.symbol e.form e.output.is_printed (record (frame_at continuation.OpenTraitArguments s) { in_value = false })))
+      ≡ with_looks (1 ∷ 1 ∷ []) (and_then (with_closed_bracket (of e.form e.output.is_printed (unit_outcome about a_path false (Some (i + 1))))) (trace_of_frame e.symbol e.form e.output.is_printed (record (frame_at continuation.OpenTraitArguments s) { in_value = false })))
   unfolding trace_at
-  generic_reads i at h k = rw at (trait_path_reads e.form.include_hash e.form.fold_arguments e.output.is_printed e.symbol s.depth_left s.lifetimes false i ∙ trait_path_generic e.form.include_hash e.form.fold_arguments e.output.is_printed e.symbol s.depth_left s.lifetimes i h k)
+  generic_reads i at h k = rw at (trait_path_reads e.form e.output.is_printed e.symbol s.depth_left s.lifetimes false i ∙ trait_path_generic e.form e.output.is_printed e.symbol s.depth_left s.lifetimes i h k)
 
   plain_reads : (i : ℕ) → s.place ≡ Some i → is_byte e.symbol i (code "B") ≡ false → is_byte e.symbol i (code "I") ≡ false
-      → trace_of_state e.symbol e.form e.output.is_printed continuation.TraitPath s ≡ with_looks (1 ∷ 1 ∷ []) (with_closed_bracket (of e.form.include_hash e.output.is_printed (unit_outcome about a_path false (Some i))))
+      → trace_of_state e.symbol e.form e.output.is_printed continuation.TraitPath s ≡ with_looks (1 ∷ 1 ∷ []) (with_closed_bracket (of e.form e.output.is_printed (unit_outcome about a_path false (Some i))))
   unfolding trace_at
   plain_reads i at h k =
-      let g = of e.form.include_hash e.output.is_printed (unit_outcome about a_path false (Some i)) in
-      rw at (trait_path_reads e.form.include_hash e.form.fold_arguments e.output.is_printed e.symbol s.depth_left s.lifetimes false i
-      ∙ (trait_path_plain e.form.include_hash e.form.fold_arguments e.output.is_printed e.symbol s.depth_left s.lifetimes i h k
-      ∙ ap (λ (x : Bool). with_looks (1 ∷ 1 ∷ []) (record { events = g.events; place = g.place; is_bracket_open = x })) (unit_closed e.symbol e.form.fold_arguments e.output.is_printed s.depth_left s.lifetimes a_path false (Some i) tt)))
+      let g = of e.form e.output.is_printed (unit_outcome about a_path false (Some i)) in
+      rw at (trait_path_reads e.form e.output.is_printed e.symbol s.depth_left s.lifetimes false i
+      ∙ (trait_path_plain e.form e.output.is_printed e.symbol s.depth_left s.lifetimes i h k
+      ∙ ap (λ (x : Bool). with_looks (1 ∷ 1 ∷ []) (record { events = g.events; place = g.place; is_bracket_open = x })) (unit_closed e.symbol e.form e.output.is_printed s.depth_left s.lifetimes a_path false (Some i) tt)))
 
   -- Bindings, and the dyn traits after them.
 
@@ -133,14 +133,14 @@ module _ {V : Type 0} (e : Env V) (s : State) where
   failed_reads : (o : Bool) → shut_at e (bindings_left o) s None ≡ with_texts e.output.is_printed (pending_texts (closing_text o)) (empty_trace None false)
   failed_reads o =
       left_reads o None
-      ∙ (ap (λ (h : Trace). and_then h traits) (bindings_failed e.form.include_hash e.form.fold_arguments e.output.is_printed e.symbol s.depth_left s.lifetimes o)
+      ∙ (ap (λ (h : Trace). and_then h traits) (bindings_failed e.form e.output.is_printed e.symbol s.depth_left s.lifetimes o)
       ∙ (handing_then e.output.is_printed (if_so o ">") (empty_trace None false) traits
       ∙ (ap (with_texts e.output.is_printed (if_so o ">")) traits_failed ∙ ap (λ ts. with_texts e.output.is_printed ts (empty_trace None false)) (end_text o))))
 
   over_reads : (o : Bool) (i : ℕ) → is_byte e.symbol i (code "p") ≡ false → shut_at e (bindings_left o) s (Some i) ≡ with_looks (1 ∷ []) (with_texts e.output.is_printed (pending_texts (closing_text o)) (traits (Some i) false))
   over_reads o i h =
       left_reads o (Some i)
-      ∙ (ap (λ (h : Trace). and_then h traits) (bindings_over e.form.include_hash e.form.fold_arguments e.output.is_printed e.symbol s.depth_left s.lifetimes o i h)
+      ∙ (ap (λ (h : Trace). and_then h traits) (bindings_over e.form e.output.is_printed e.symbol s.depth_left s.lifetimes o i h)
       ∙ (allowing_then (1 ∷ []) (with_texts e.output.is_printed (if_so o ">") (empty_trace (Some i) false)) traits
       ∙ (ap (with_looks (1 ∷ [])) (handing_then e.output.is_printed (if_so o ">") (empty_trace (Some i) false) traits)
       ∙ ap (λ ts. with_looks (1 ∷ []) (with_texts e.output.is_printed ts (traits (Some i) false))) (end_text o))))
@@ -160,7 +160,7 @@ module _ {V : Type 0} (e : Env V) (s : State) where
   name_said : (a : Name) (j : Place) → open_at e (print_name a (print_str " = " after_name)) s j ≡ with_texts e.output.is_printed (name_pieces a ++ codes " = " ∷ []) (open_at e after_name s j)
   unfolding parse
   name_said a j =
-      says_all e.form.include_hash e.output.is_printed (name_pieces a) (print_str " = " after_name) about j
+      says_all e.form e.output.is_printed (name_pieces a) (print_str " = " after_name) about j
       ∙ sym (handing_both e.output.is_printed (name_pieces a) (codes " = " ∷ []) (open_at e after_name s j))
 
   a_name : (i j : ℕ) (a : Name) → identifier_at e.symbol i ≡ Some (a, j)
@@ -189,10 +189,10 @@ module _ {V : Type 0} (e : Env V) (s : State) where
 
       go : (r : Read Name) → identifier_at e.symbol (i + 1) ≡ r → and_then (open_at e (bindings o binding_value) s (Some i)) traits ≡ with_looks (1 ∷ []) (with_texts e.output.is_printed (mark_of o ∷ []) (name_trace (i + 1)))
       go None f =
-          with_text (4 * (length e.symbol - (i + 1) + 1)) (codes "{invalid syntax}" ∷ []) (empty_trace None false) (empty_trace None false) (binding_stops e.form.include_hash e.form.fold_arguments e.output.is_printed e.symbol s.depth_left s.lifetimes o i p f) traits_failed (no_name (i + 1) f)
+          with_text (4 * (length e.symbol - (i + 1) + 1)) (codes "{invalid syntax}" ∷ []) (empty_trace None false) (empty_trace None false) (binding_stops e.form e.output.is_printed e.symbol s.depth_left s.lifetimes o i p f) traits_failed (no_name (i + 1) f)
       go (Some r) f =
           let m : Place → Bool → Trace = λ x _. open_at e (bindings true binding_value) s x in
-          with_text (4 * (r.1 - (i + 1) + 1)) (name_pieces r.0 ++ codes " = " ∷ []) (and_then (open_at e binding_value s (Some r.1)) m) (shut_at e after_name s (Some r.1)) (binding_reads e.form.include_hash e.form.fold_arguments e.output.is_printed e.symbol s.depth_left s.lifetimes o i r.1 r.0 l p f)
+          with_text (4 * (r.1 - (i + 1) + 1)) (name_pieces r.0 ++ codes " = " ∷ []) (and_then (open_at e binding_value s (Some r.1)) m) (shut_at e after_name s (Some r.1)) (binding_reads e.form e.output.is_printed e.symbol s.depth_left s.lifetimes o i r.1 r.0 l p f)
           (and_then_assoc (open_at e binding_value s (Some r.1)) m traits ∙ further (Some r.1)) (a_name (i + 1) r.1 r.0 f)
 
   -- The value of a binding.
@@ -203,15 +203,15 @@ module _ {V : Type 0} (e : Env V) (s : State) where
   bound_reads i prefix g at h = rw at
       (after_reads i ∙ (ap (λ (h : Trace). followed h (shut_at e (bindings_left true) s)) h ∙ allowing_then prefix g (λ x _. shut_at e (bindings_left true) s x)))
 
-  no_bound : open_at e binding_value s None ≡ of e.form.include_hash e.output.is_printed (unit_outcome about a_type false None)
+  no_bound : open_at e binding_value s None ≡ of e.form e.output.is_printed (unit_outcome about a_type false None)
   unfolding parse
-  no_bound = last_child e.form.include_hash e.form.fold_arguments e.output.is_printed e.symbol s.depth_left s.lifetimes a_type false None tt
+  no_bound = last_child e.form e.output.is_printed e.symbol s.depth_left s.lifetimes a_type false None tt
 
   -- The arguments of a dyn trait path, unfolded.
 
   open_so : (first : Bool) → HasNoError e s first → trace_of_state e.symbol e.form e.output.is_printed (open_point first) s ≡ open_at e (left_open first) s s.place
   unfolding trace_at
-  open_so true w = unfolded e.form.include_hash (leave_open done) about s.place w
+  open_so true w = unfolded e.form (leave_open done) about s.place w
   open_so false w = refl
 
 module _ {V : Type 0} {e : Env V} where
@@ -318,9 +318,9 @@ module _ {V : Type 0} {e : Env V} where
   pub bound_constant_on : {t : Machine V} {stack : List Frame} {n : ℕ} (i : ℕ) → t.state.place ≡ Some i → is_byte e.symbol i (code "K") ≡ true → n ≡ t.looks + 1 → t.state.pending_text ≡ None → Fits continuation.BindingValue t.state.depth_left t.state.lifetimes → stack ≡ t.stack ++ frame_at continuation.FurtherBindings t.state ∷ []
       → PerformsAt e continuation.BindingValue t (Ok continuation.Constant) (record t { state = record t.state { in_value = false; place = Some (i + 1) }; stack = stack; looks = n })
   unfolding trace_at
-  bound_constant_on {t} i at h l m f r = binds continuation.Constant (Some i) (1 ∷ []) _ (omega arith) (omega arith) at (bound_constant e.form.include_hash e.form.fold_arguments e.output.is_printed e.symbol t.state.depth_left t.state.lifetimes i h) refl (one_look l) (rw at (omega (arith, l))) m (omega arith) (omega arith) f f r
+  bound_constant_on {t} i at h l m f r = binds continuation.Constant (Some i) (1 ∷ []) _ (omega arith) (omega arith) at (bound_constant e.form e.output.is_printed e.symbol t.state.depth_left t.state.lifetimes i h) refl (one_look l) (rw at (omega (arith, l))) m (omega arith) (omega arith) f f r
 
   pub bound_type_on : {t : Machine V} {stack : List Frame} {n : ℕ} (i : ℕ) → t.state.place ≡ Some i → is_byte e.symbol i (code "K") ≡ false → n ≡ t.looks + 1 → t.state.pending_text ≡ None → Fits continuation.BindingValue t.state.depth_left t.state.lifetimes → stack ≡ t.stack ++ frame_at continuation.FurtherBindings t.state ∷ []
       → PerformsAt e continuation.BindingValue t (Ok continuation.«Type») (record t { state = record t.state { in_value = false }; stack = stack; looks = n })
   unfolding trace_at
-  bound_type_on {t} i at h l m f r = binds continuation.«Type» (Some i) (1 ∷ []) _ (omega arith) (omega arith) at (bound_type e.form.include_hash e.form.fold_arguments e.output.is_printed e.symbol t.state.depth_left t.state.lifetimes i h) (rw at refl) (one_look l) (rw at (omega (arith, l))) m (omega arith) (omega arith) f f r
+  bound_type_on {t} i at h l m f r = binds continuation.«Type» (Some i) (1 ∷ []) _ (omega arith) (omega arith) at (bound_type e.form e.output.is_printed e.symbol t.state.depth_left t.state.lifetimes i h) (rw at refl) (one_look l) (rw at (omega (arith, l))) m (omega arith) (omega arith) f f r

@@ -64,7 +64,7 @@ binder_part e words p s weight high = part words (trace e.output e.symbol e.form
 
 binder_so : {V : Type 0} (e : Env V) (p : Items) (left n i j m : ℕ) → Some (m, j) ≡ optional_at (code "G") e.symbol i
     → trace e.output e.symbol e.form (in_binder p) left n (Some i) ≡ with_looks (4 * (j - i + 1) ∷ []) (with_texts e.output.is_printed (binder_texts m n) (trace e.output e.symbol e.form p left (n + m) (Some j)))
-binder_so e p left n i j m o = ap with_closed_bracket (binder_reads e.form.include_hash e.form.fold_arguments e.output.is_printed e.symbol left n p i j m (sym o))
+binder_so e p left n i j m o = ap with_closed_bracket (binder_reads e.form e.output.is_printed e.symbol left n p i j m (sym o))
 
 module _ {V : Type 0} {e : Env V} where
   pub binder_unread : {t : Machine V} {words weight high : ℕ} (p : Items) → t.state.pending_text ≡ None → t.state.place ≡ None → 1 ≤ weight → Performs e t (binder_part e words p t.state weight high) (Err (Abort fixed.AfterError)) t

@@ -22,6 +22,8 @@ pub mod TaggedConstantSteps
 pub mod FixedTextSteps
 pub mod StepCases
 pub mod PrimitiveLooks
+pub mod Pace
+pub mod SkipPace
 pub mod TupleSteps
 pub mod TypeSteps
 pub mod VariantSteps

@@ -44,33 +44,33 @@ module _ {V : Type 0} (output : Ghosts V) (b : List ℕ) (form : Form) where
   unfolding parse
   lifetime_after q left n i j k e z = rw (sym e, ne_eqb k 0 z) refl
 
-  silent_so : (q : Bool) (left n j k : ℕ) (out : Bool) → out ≡ false → with_closed_bracket (of form.include_hash out (parse (lifetime k (print_str " " (print_if q "mut " type_inside))) (context_at b form.fold_arguments out left n) (Some j))) ≡ with_closed_bracket (of form.include_hash out (parse (print_if q "mut " type_inside) (context_at b form.fold_arguments out left n) (Some j)))
+  silent_so : (q : Bool) (left n j k : ℕ) (out : Bool) → out ≡ false → with_closed_bracket (of form out (parse (lifetime k (print_str " " (print_if q "mut " type_inside))) (context_at b form out left n) (Some j))) ≡ with_closed_bracket (of form out (parse (print_if q "mut " type_inside) (context_at b form out left n) (Some j)))
   unfolding parse
   silent_so q left n j k true s = absurd (false≢true (sym s))
   silent_so q left n j k false s = refl
 
   -- a lifetime that is printed
   spaced_so : (left n k j : ℕ) (p : Items) (out : Bool) → out ≡ true → (k ≡ 0 → ⊥)
-      → of form.include_hash out (parse (lifetime k (print_str " " p)) (context_at b form.fold_arguments out left n) (Some j)) ≡ with_texts out (texts_of b form.include_hash (spaced_lifetime n k j).0) (of form.include_hash out (parse p (context_at b form.fold_arguments out left n) (spaced_lifetime n k j).1))
+      → of form out (parse (lifetime k (print_str " " p)) (context_at b form out left n) (Some j)) ≡ with_texts out (texts_of b form (spaced_lifetime n k j).0) (of form out (parse p (context_at b form out left n) (spaced_lifetime n k j).1))
   spaced_so left n k j p false s z = absurd (false≢true s)
   spaced_so left n k j p true s z = go (nat_le k n) refl
     where
       h : Trace
-      h = of form.include_hash true (parse p (context_at b form.fold_arguments true left n) (Some j))
+      h = of form true (parse p (context_at b form true left n) (Some j))
 
-      space : (x : Place) → of form.include_hash true (parse (print_str " " p) (context_at b form.fold_arguments true left n) x) ≡ with_texts true (codes " " ∷ []) (of form.include_hash true (parse p (context_at b form.fold_arguments true left n) x))
-      space = says_all form.include_hash true (codes " " ∷ []) p (context_at b form.fold_arguments true left n)
+      space : (x : Place) → of form true (parse (print_str " " p) (context_at b form true left n) x) ≡ with_texts true (codes " " ∷ []) (of form true (parse p (context_at b form true left n) x))
+      space = says_all form true (codes " " ∷ []) p (context_at b form true left n)
 
-      go : (x : Bool) → nat_le k n ≡ x → of form.include_hash true (parse (lifetime k (print_str " " p)) (context_at b form.fold_arguments true left n) (Some j)) ≡ with_texts true (texts_of b form.include_hash (spaced_lifetime n k j).0) (of form.include_hash true (parse p (context_at b form.fold_arguments true left n) (spaced_lifetime n k j).1))
-      go true e = rw e (lifetime_named form.include_hash form.fold_arguments b left n (print_str " " p) k j (ne_eqb k 0 z) e ∙ ap (with_texts true (codes "'" ∷ letter_of (n - k))) (space (Some j))
+      go : (x : Bool) → nat_le k n ≡ x → of form true (parse (lifetime k (print_str " " p)) (context_at b form true left n) (Some j)) ≡ with_texts true (texts_of b form (spaced_lifetime n k j).0) (of form true (parse p (context_at b form true left n) (spaced_lifetime n k j).1))
+      go true e = rw e (lifetime_named form b left n (print_str " " p) k j (ne_eqb k 0 z) e ∙ ap (with_texts true (codes "'" ∷ letter_of (n - k))) (space (Some j))
           ∙ ap (λ xs. record { events = xs; place = h.place; is_bracket_open = h.is_bracket_open }) (sym (said_both true (codes "'" ∷ letter_of (n - k)) (codes " " ∷ []) h.events)))
-      go false e = rw e (lifetime_wrong form.include_hash form.fold_arguments b left n (print_str " " p) k j (ne_eqb k 0 z) e ∙ ap (with_texts true (codes "'" ∷ codes "{invalid syntax}" ∷ [])) (space None))
+      go false e = rw e (lifetime_wrong form b left n (print_str " " p) k j (ne_eqb k 0 z) e ∙ ap (with_texts true (codes "'" ∷ codes "{invalid syntax}" ∷ [])) (space None))
 
   spaced_trace : (q : Bool) (left n i j k : ℕ) (s : Token) (x : Place) → Some (k, j) ≡ integer_at b i → (k ≡ 0 → ⊥) → output.is_printed ≡ true → (s, x) ≡ spaced_lifetime n k j
-      → named_trace q left n (Some i) ≡ with_looks (4 * (j - i + 1) ∷ []) (with_texts output.is_printed (texts_of b form.include_hash s) (trace output b form (print_if q "mut " type_inside) left n x))
+      → named_trace q left n (Some i) ≡ with_looks (4 * (j - i + 1) ∷ []) (with_texts output.is_printed (texts_of b form s) (trace output b form (print_if q "mut " type_inside) left n x))
   spaced_trace q left n i j k s x e z y g =
       lifetime_after q left n i j k e z ∙ ap (λ (h : Trace). with_looks (4 * (j - i + 1) ∷ []) (with_closed_bracket h)) (spaced_so left n k j (print_if q "mut " type_inside) output.is_printed y z)
-      ∙ ap (λ (r : Token × Place). with_looks (4 * (j - i + 1) ∷ []) (with_texts output.is_printed (texts_of b form.include_hash r.0) (trace output b form (print_if q "mut " type_inside) left n r.1))) (sym g)
+      ∙ ap (λ (r : Token × Place). with_looks (4 * (j - i + 1) ∷ []) (with_texts output.is_printed (texts_of b form r.0) (trace output b form (print_if q "mut " type_inside) left n r.1))) (sym g)
 
 -- the index of a lifetime was read
 pub record Indexed {V : Type 0} (e : Env V) (t : Machine V) (i k j n : ℕ) : Type 0 where
@@ -118,19 +118,19 @@ module _ {V : Type 0} {e : Env V} where
 
   -- a lifetime that is printed
   emitted : {t : Machine V} {i k j n : ℕ} (q : Bool) (y : Token) (x : Place) → Indexed e t i k j n → (k ≡ 0 → ⊥) → e.output.is_printed ≡ true → (y, x) ≡ spaced_lifetime t.state.lifetimes k j
-      → named_trace e.output e.symbol e.form q t.state.depth_left t.state.lifetimes t.state.place ≡ with_looks (4 * (j - i + 1) ∷ []) (with_texts e.output.is_printed (texts_of e.symbol e.form.include_hash y) (trace e.output e.symbol e.form (print_if q "mut " type_inside) t.state.depth_left t.state.lifetimes x))
+      → named_trace e.output e.symbol e.form q t.state.depth_left t.state.lifetimes t.state.place ≡ with_looks (4 * (j - i + 1) ∷ []) (with_texts e.output.is_printed (texts_of e.symbol e.form y) (trace e.output e.symbol e.form (print_if q "mut " type_inside) t.state.depth_left t.state.lifetimes x))
   emitted {t} {i} {k} {j} q y x d z m g = let s = t.state in ap (λ (p : Place). named_trace e.output e.symbol e.form q s.depth_left s.lifetimes p) d.at ∙ spaced_trace e.output e.symbol e.form q s.depth_left s.lifetimes i j k y x d.is z m g
 
   pub lifetime_tells : {t : Machine V} {v : V} {n : ℕ} (q : Bool) (i k j : ℕ) (y : Token) (x : Place) → Indexed e t i k j n → (k ≡ 0 → ⊥) → e.output.is_printed ≡ true → (y, x) ≡ spaced_lifetime t.state.lifetimes k j
-      → e.output.prints t.output (texts_of e.symbol e.form.include_hash y) (Ok tt) v → e.output.ready v → PerformsAt e (lifetime_continuation q) t (Ok (after_reference_lifetime q)) (record t { state = record t.state { place = x }; output = v; looks = n })
+      → e.output.prints t.output (texts_of e.symbol e.form y) (Ok tt) v → e.output.ready v → PerformsAt e (lifetime_continuation q) t (Ok (after_reference_lifetime q)) (record t { state = record t.state { place = x }; output = v; looks = n })
   lifetime_tells {t} q i k j y x d z m g r ready =
       let s = t.state in
       let w = after_within q in
       as_lifetime q (tells (after_reference_lifetime q) (4 * (j - i + 1) ∷ []) (omega arith) y
-      (emitted q y x d z m g ∙ ap (λ (h : Trace). with_looks (4 * (j - i + 1) ∷ []) (with_texts e.output.is_printed (texts_of e.symbol e.form.include_hash y) h)) (after_so e.output e.symbol e.form q s.in_value s.letter s.depth_left s.lifetimes x s.is_bracket_open))
+      (emitted q y x d z m g ∙ ap (λ (h : Trace). with_looks (4 * (j - i + 1) ∷ []) (with_texts e.output.is_printed (texts_of e.symbol e.form y) h)) (after_so e.output e.symbol e.form q s.in_value s.letter s.depth_left s.lifetimes x s.is_bracket_open))
       r ready d.no_pending_text d.within_budget (short d) (omega (arith, w.light)) (w.low s.depth_left) (w.fits s.depth_left s.lifetimes d.fits))
 
   pub lifetime_refused : {t : Machine V} {s : State} {v : V} {n : ℕ} {f : SinkRefused} (q : Bool) (i k j : ℕ) (y : Token) (x : Place) → Indexed e t i k j n → (k ≡ 0 → ⊥) → e.output.is_printed ≡ true → (y, x) ≡ spaced_lifetime t.state.lifetimes k j
-      → e.output.prints t.output (texts_of e.symbol e.form.include_hash y) (Err f) v → PerformsAt e (lifetime_continuation q) t (Err Sink) (record t { state = s; output = v; looks = n })
+      → e.output.prints t.output (texts_of e.symbol e.form y) (Err f) v → PerformsAt e (lifetime_continuation q) t (Err Sink) (record t { state = s; output = v; looks = n })
   lifetime_refused {t} q i k j y x d z m g r =
       as_lifetime q (halts (4 * (j - i + 1) ∷ []) (omega arith) y (trace e.output e.symbol e.form (print_if q "mut " type_inside) t.state.depth_left t.state.lifetimes x) (emitted q y x d z m g) r (λ h. absurd (false≢true (sym h ∙ m))) d.within_budget (short d))

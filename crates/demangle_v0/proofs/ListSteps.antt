@@ -39,7 +39,7 @@ then_of first text x z rest = if first then rest else more text x z
 
 -- the trace of these items from a place, with the bracket as they leave it
 abbrev pub open_at : {V : Type 0} → Env V → Items → State → Place → Trace
-open_at e p s i = of e.form.include_hash e.output.is_printed (parse p (context_at e.symbol e.form.fold_arguments e.output.is_printed s.depth_left s.lifetimes) i)
+open_at e p s i = of e.form e.output.is_printed (parse p (context_at e.symbol e.form e.output.is_printed s.depth_left s.lifetimes) i)
 
 -- the same, with the bracket closed after them
 abbrev pub shut_at : {V : Type 0} → Env V → Items → State → Place → Trace
@@ -66,12 +66,12 @@ paid_on i p = record { grows = p.grows; within = omega (arith, p.within, list_fe
 
 module _ {V : Type 0} (e : Env V) (s : State) where
   pub end_trace : (p q : Items) (i : Place) → is_list_end e.symbol i ≡ true → open_at e (at_end p q) s i ≡ with_looks (list_costs i) (open_at e p s (after_list e.symbol i))
-  end_trace p q None h = end_failed e.form.include_hash e.output.is_printed (context_at e.symbol e.form.fold_arguments e.output.is_printed s.depth_left s.lifetimes) p q
-  end_trace p q (Some i) h = rw h (end_over e.form.include_hash e.output.is_printed (context_at e.symbol e.form.fold_arguments e.output.is_printed s.depth_left s.lifetimes) p q i h)
+  end_trace p q None h = end_failed e.form e.output.is_printed (context_at e.symbol e.form e.output.is_printed s.depth_left s.lifetimes) p q
+  end_trace p q (Some i) h = rw h (end_over e.form e.output.is_printed (context_at e.symbol e.form e.output.is_printed s.depth_left s.lifetimes) p q i h)
 
   more_trace : (text : String) (x z : Items) (i : Place) → is_list_end e.symbol i ≡ true → open_at e (more text x z) s i ≡ with_looks (list_costs i) (open_at e z s (after_list e.symbol i))
-  more_trace text x z None h = more_failed e.form.include_hash e.output.is_printed (context_at e.symbol e.form.fold_arguments e.output.is_printed s.depth_left s.lifetimes) text x z
-  more_trace text x z (Some i) h = rw h (more_over e.form.include_hash e.output.is_printed (context_at e.symbol e.form.fold_arguments e.output.is_printed s.depth_left s.lifetimes) text x z i h)
+  more_trace text x z None h = more_failed e.form e.output.is_printed (context_at e.symbol e.form e.output.is_printed s.depth_left s.lifetimes) text x z
+  more_trace text x z (Some i) h = rw h (more_over e.form e.output.is_printed (context_at e.symbol e.form e.output.is_printed s.depth_left s.lifetimes) text x z i h)
 
   -- the look at the end of the list
   pub over_trace : (first : Bool) (text : String) (x z rest : Items) (i : Place) → is_list_end e.symbol i ≡ true → open_at e (trace_left first text x z rest) s i ≡ with_looks (list_costs i) (open_at e z s (after_list e.symbol i))
@@ -79,11 +79,11 @@ module _ {V : Type 0} (e : Env V) (s : State) where
   over_trace false text x z rest i h = more_trace text x z i h
 
   -- one element, after the separator, which is the text of `m`
-  pub on_trace : (first : Bool) (sep : String) (m : FixedText) → text m ≡ codes sep → (x z rest : Items) (i : ℕ) → Element e.symbol e.form.fold_arguments e.output.is_printed s.depth_left s.lifetimes x → is_byte e.symbol i (code "E") ≡ false
+  pub on_trace : (first : Bool) (sep : String) (m : FixedText) → text m ≡ codes sep → (x z rest : Items) (i : ℕ) → Element e.symbol e.form e.output.is_printed s.depth_left s.lifetimes x → is_byte e.symbol i (code "E") ≡ false
       → open_at e (trace_left first sep x z rest) s (Some i) ≡ with_looks (1 ∷ []) (with_texts e.output.is_printed (pending_texts (separator first m)) (followed (open_at e x s (Some i)) (open_at e (then_of first sep x z rest) s)))
   unfolding parse
-  on_trace true sep m q x z rest i el h = end_on e.form.include_hash e.output.is_printed (context_at e.symbol e.form.fold_arguments e.output.is_printed s.depth_left s.lifetimes) z (unit x rest) i h
-  on_trace false sep m q x z rest i el h = rw q (more_on e.form.include_hash e.form.fold_arguments e.output.is_printed e.symbol s.depth_left s.lifetimes sep x z i el h)
+  on_trace true sep m q x z rest i el h = end_on e.form e.output.is_printed (context_at e.symbol e.form e.output.is_printed s.depth_left s.lifetimes) z (unit x rest) i h
+  on_trace false sep m q x z rest i el h = rw q (more_on e.form e.output.is_printed e.symbol s.depth_left s.lifetimes sep x z i el h)
 
 module _ {V : Type 0} {e : Env V} where
   -- The list ends, and another continuation follows.
@@ -97,17 +97,17 @@ module _ {V : Type 0} {e : Env V} where
 -- x is the production at this continuation, and its value position is `v`
 pub record Units {V : Type 0} (e : Env V) (q : Continuation) (v : State → Bool) (x : Items) : Type 0 where
   pub at : (s : State) (i : ℕ) (m : Option FixedText) → shut_at e x s (Some i) ≡ trace_of_state e.symbol e.form e.output.is_printed q (record s { in_value = v s; place = Some i; pending_text = m })
-  pub element : (left n : ℕ) → left ≤ max_depth → Element e.symbol e.form.fold_arguments e.output.is_printed left n x
+  pub element : (left n : ℕ) → left ≤ max_depth → Element e.symbol e.form e.output.is_printed left n x
   pub within : Within q 3 1
 
 module _ {V : Type 0} (e : Env V) where
   pub type_units : Units e continuation.«Type» (λ s. s.in_value) type_inside
   unfolding trace_at
-  type_units = record { at = λ s i m. child_last e.output e.symbol e.form a_type false s.depth_left s.lifetimes (Some i); element = λ left n. type_element e.symbol e.form.fold_arguments e.output.is_printed left n; within = record { light = omega arith; low = λ left. omega arith; fits = λ left n f. f } }
+  type_units = record { at = λ s i m. child_last e.output e.symbol e.form a_type false s.depth_left s.lifetimes (Some i); element = λ left n. type_element e.symbol e.form e.output.is_printed left n; within = record { light = omega arith; low = λ left. omega arith; fits = λ left n f. f } }
 
   pub constant_units : Units e continuation.Constant (λ _. true) constant_inside
   unfolding trace_at
-  constant_units = record { at = λ s i m. child_last e.output e.symbol e.form a_constant true s.depth_left s.lifetimes (Some i); element = λ left n. constant_element e.symbol e.form.fold_arguments e.output.is_printed left n; within = record { light = omega arith; low = λ left. omega arith; fits = λ left n f. f } }
+  constant_units = record { at = λ s i m. child_last e.output e.symbol e.form a_constant true s.depth_left s.lifetimes (Some i); element = λ left n. constant_element e.symbol e.form e.output.is_printed left n; within = record { light = omega arith; low = λ left. omega arith; fits = λ left n f. f } }
 
 -- A list of x before z. Its continuations are: `p`, at which an element may begin; `q`, that of an element, with its
 -- value position; and `f`, after an element.
@@ -184,5 +184,5 @@ pub second_continues : {V : Type 0} {e : Env V} {p q f : Continuation} {v : Stat
 second_continues {e = e} {x = x} l {t = t} c h k p g y r =
     let s = t.state in
     let i = on e.symbol s.place h in
-    let so = second_on e.form.include_hash e.form.fold_arguments e.output.is_printed e.symbol s.depth_left s.lifetimes x (print_str ")" done) i.0 (l.units.element s.depth_left s.lifetimes (omega (arith, y))) i.2 in
+    let so = second_on e.form e.output.is_printed e.symbol s.depth_left s.lifetimes x (print_str ")" done) i.0 (l.units.element s.depth_left s.lifetimes (omega (arith, y))) i.2 in
     list_enters l i (1 ∷ 1 ∷ []) (omega arith) (omega arith) (c ∙ (ap (λ (o : Place). shut_at e (at_end (print_str "," (print_str ")" done)) (more ", " x (print_str ")" done))) s o) i.1 ∙ ap with_closed_bracket so)) k p g y r

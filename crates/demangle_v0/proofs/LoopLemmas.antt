@@ -37,11 +37,11 @@ unit_rest_failed b form out continuation.End v c left n o h = refl
 unit_rest_failed b form out continuation.Path v c left n o h = refl
 unit_rest_failed b form out continuation.«Type» v c left n o h = refl
 unit_rest_failed b form out continuation.TraitPath v c left n o h = refl
-unit_rest_failed b form out continuation.Bindings v c left n o h = failed (bindings_left o) (context_at b form.fold_arguments out left n)
+unit_rest_failed b form out continuation.Bindings v c left n o h = failed (bindings_left o) (context_at b form out left n)
 unit_rest_failed b form out continuation.Pattern v c left n o h = refl
 unit_rest_failed b form out continuation.Constant v c left n o h = refl
 unit_rest_failed b form out continuation.AfterBackref v c left n o h = absurd (false≢true h)
-unit_rest_failed b form out p v c left n o h = failed (items_at p v c) (context_at b form.fold_arguments out left n)
+unit_rest_failed b form out p v c left n o h = failed (items_at p v c) (context_at b form out left n)
 
 -- A step whose pending text is printed.
 
@@ -55,7 +55,7 @@ module _ {V : Type 0} (e : Env V) where
   -- the actions of a step, in order
   abbrev pub bits_of : List ℕ → Option Token → List ℕ → List Action
   bits_of prefix None back = allows_looks prefix ∷ allows_looks back ∷ []
-  bits_of prefix (Some s) back = allows_looks prefix ∷ puts (texts_of e.symbol e.form.include_hash s) ∷ allows_looks back ∷ []
+  bits_of prefix (Some s) back = allows_looks prefix ∷ puts (texts_of e.symbol e.form s) ∷ allows_looks back ∷ []
 
   abbrev taken : List ℕ → Option Token → Option FixedText → List ℕ → Trace → Trace
   taken prefix emitted m back h = with_looks prefix (with_texts e.output.is_printed (emitted_texts e emitted) (with_texts e.output.is_printed (pending_texts m) (with_looks back h)))
@@ -383,10 +383,10 @@ module _ {V : Type 0} {e : Env V} where
   abbrev pub prefix_of : {p : Continuation} {t : Machine V} {v : V} {n : ℕ} → StoppedAfter e p t v n → List Action
   prefix_of d = d.ran.bits ++ allows_looks d.halts.prefix ∷ []
 
-  pub broke_trace : {p : Continuation} {t : Machine V} {v : V} {n : ℕ} (d : StoppedAfter e p t v n) → trace_left e p t ≡ with_actions e.output.is_printed (prefix_of d) (with_texts e.output.is_printed (texts_of e.symbol e.form.include_hash d.halts.emitted) (after_broke d))
+  pub broke_trace : {p : Continuation} {t : Machine V} {v : V} {n : ℕ} (d : StoppedAfter e p t v n) → trace_left e p t ≡ with_actions e.output.is_printed (prefix_of d) (with_texts e.output.is_printed (texts_of e.symbol e.form d.halts.emitted) (after_broke d))
   broke_trace d =
       let out = e.output.is_printed in
-      let texts = texts_of e.symbol e.form.include_hash d.halts.emitted in
+      let texts = texts_of e.symbol e.form d.halts.emitted in
       let above = trace_of_stack e.symbol e.form out d.stack in
       let prefix = allows_looks d.halts.prefix ∷ [] in
       d.ran.reads
@@ -403,7 +403,7 @@ module _ {V : Type 0} {e : Env V} where
   pub broke_fails : {p : Continuation} {t : Machine V} {v : V} {n : ℕ} → e.output.is_printed ≡ false → (d : StoppedAfter e p t v n) → AllInner d.stack → ((trace_left e p t).place ≡ None) × (n ≤ t.looks + allowed_in (trace_left e p t).events)
   broke_fails without_output d i =
       let out = e.output.is_printed in
-      let texts = texts_of e.symbol e.form.include_hash d.halts.emitted in
+      let texts = texts_of e.symbol e.form d.halts.emitted in
       let rest = with_texts out texts (after_broke d) in (
         ap (λ (h : Trace). h.place) (broke_trace d) ∙ (place_bits out (prefix_of d) rest ∙ stack_rest_failed e.symbol e.form out d.stack d.halts.rest.place d.halts.rest.is_bracket_open i (d.halts.fails without_output)),
         omega (

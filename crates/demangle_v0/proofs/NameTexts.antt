@@ -6,23 +6,30 @@ use Rattle.demangle_symbol.specs.Primitives.{is_upper}
 use Rattle.demangle_symbol.specs.Names.{is_empty_name, name_pieces}
 use Rattle.demangle_symbol.specs.Idents.{name_in}
 use Rattle.demangle_symbol.specs.declared.cursor.ident.Ident.{Ident}
+use Rattle.demangle_v0_grammar.specs.Reading.{Form}
 use Rattle.demangle_v0_tokens.specs.Tokens.{texts_of, if_plain, special_texts}
 use Rattle.demangle_v0_tokens.specs.declared.token.Token.TheVariants.{CrateName, NestedName}
 
 -- a crate's name without its hash
-pub crate_texts_same : (b : List ℕ) (include_hash : Bool) (a : Ident) (d n : ℕ) → (include_hash ≡ true → d ≡ n) → texts_of b include_hash (CrateName a n) ≡ texts_of b include_hash (CrateName a d)
-crate_texts_same b true a d n same = rw (same refl) refl
-crate_texts_same b false a d n same = ap (λ ts. name_pieces (name_in b a) ++ ts) (go (n == 0) (d == 0))
+pub crate_texts_same : (b : List ℕ) (form : Form) (a : Ident) (d n : ℕ) → (form.include_hash ≡ true → d ≡ n) → texts_of b form (CrateName a n) ≡ texts_of b form (CrateName a d)
+crate_texts_same b form a d n same = ap (λ ts. name_pieces (name_in b a) ++ ts) (by form.include_hash same)
   where
+    shown : Bool → ℕ → List (List ℕ)
+    shown hash m = cond (m == 0) [] (if_plain hash (codes "[" ∷ digits 16 false m ∷ codes "]" ∷ []))
+
     go : (p q : Bool) → cond p [] (if_plain false (codes "[" ∷ digits 16 false n ∷ codes "]" ∷ [])) ≡ cond q [] (if_plain false (codes "[" ∷ digits 16 false d ∷ codes "]" ∷ []))
     go true true = refl
     go true false = refl
     go false true = refl
     go false false = refl
 
+    by : (hash : Bool) → (hash ≡ true → d ≡ n) → shown hash n ≡ shown hash d
+    by true same = rw (same refl) refl
+    by false same = go (n == 0) (d == 0)
+
 -- a name in a namespace that is not special
-pub nested_texts_same : (b : List ℕ) (include_hash : Bool) (c : ℕ) (a : Ident) (d n : ℕ) → (is_upper c ≡ true → d ≡ n) → texts_of b include_hash (NestedName c n a) ≡ texts_of b include_hash (NestedName c d a)
-nested_texts_same b include_hash c a d n same = go (is_upper c) same
+pub nested_texts_same : (b : List ℕ) (form : Form) (c : ℕ) (a : Ident) (d n : ℕ) → (is_upper c ≡ true → d ≡ n) → texts_of b form (NestedName c n a) ≡ texts_of b form (NestedName c d a)
+nested_texts_same b form c a d n same = go (is_upper c) same
   where
     other : List (List ℕ)
     other = cond (is_empty_name (name_in b a)) [] (codes "::" ∷ name_pieces (name_in b a))

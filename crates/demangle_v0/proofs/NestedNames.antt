@@ -198,53 +198,53 @@ module _ {V : Type 0} {e : Env V} where
   performs_one {p} {t} {u} {r} d = record { at = p; mid = bare t; runs = runs_none; does = subst (λ (zs : List Frame). PerformsAt e p (record t { stack = zs }) r u) (sym (append-nil t.stack)) d }
 
 -- a continuation that is not deferred
-pub alone : {N : ℕ} {V : Type 0} {defers : Bool} {output : Ghosts V} {p : Continuation} {m k : Parser N} {v w : V} {r : Result Continuation StepError} → Performed output p m v r k w → PerformedAs defers output p m v r k w
-alone d = (performs_one d.does, λ z. d, d.same, d.does.grows)
+pub alone : {V : Type 0} {defers : Bool} {output : Ghosts V} {p : Continuation} {m k : Parser} {v w : V} {r : Result Continuation StepError} → Performed output p m v r k w → PerformedAs defers output p m v r k w
+alone d = (performs_one d.does, λ z. d, d.same, d.does.grows, d.does.own_looks)
 
 -- The names of a parser's nested paths, whose frames are not on its stack.
-module _ {N : ℕ} {V : Type 0} (output : Ghosts V) where
+module _ {V : Type 0} (output : Ghosts V) where
   -- the state with which the frame of a nested path resumes
-  abbrev pub named : Parser N → ℕ → ℕ → Parser N
+  abbrev pub named : Parser → ℕ → ℕ → Parser
   named k outer left = record k { state = record k.state { letter = 118; depth_left = outer - left - 1 } }
 
-  abbrev frames_of : Parser N → ℕ → ℕ → List Frame
+  abbrev frames_of : Parser → ℕ → ℕ → List Frame
   frames_of k outer left = name_frames k.state.in_value k.state.lifetimes outer left
 
-  frames_kept : (k n : Parser N) (outer left : ℕ) → Placed (named k outer left) n → frames_of k outer left ≡ frames_of n outer left
+  frames_kept : (k n : Parser) (outer left : ℕ) → Placed (named k outer left) n → frames_of k outer left ≡ frames_of n outer left
   frames_kept k n outer left placed =
-      ap (λ (a : Bool). name_frames a k.state.lifetimes outer left) (sym (ap (λ (z : Parser N). z.state.in_value) placed))
-      ∙ ap (λ (b : ℕ). name_frames n.state.in_value b outer left) (sym (ap (λ (z : Parser N). z.state.lifetimes) placed))
+      ap (λ (a : Bool). name_frames a k.state.lifetimes outer left) (sym (ap (λ (z : Parser). z.state.in_value) placed))
+      ∙ ap (λ (b : ℕ). name_frames n.state.in_value b outer left) (sym (ap (λ (z : Parser). z.state.lifetimes) placed))
 
   -- a name was read and printed
-  pub named_runs : (m k n : Parser N) (v w : V) (outer left : ℕ) (p : Continuation) (before : Machine V) → k.source ≡ m.source → Placed (named k outer left) n → n.state.pending_text ≡ None → Performed output continuation.NestedName (named k outer left) v (Ok continuation.End) n w
+  pub named_runs : (m k n : Parser) (v w : V) (outer left : ℕ) (p : Continuation) (before : Machine V) → k.source ≡ m.source → Placed (named k outer left) n → n.state.pending_text ≡ None → Performed output continuation.NestedName (named k outer left) v (Ok continuation.End) n w
       → Runs (env_of output m) p (bare before) continuation.End (machine_over (frames_of k outer (left + 1)) k v) → Runs (env_of output m) p (bare before) continuation.End (machine_over (frames_of n outer left) n w)
   named_runs m k n v w outer left p before s placed no_text d x =
       let does : PerformsAt (env_of output m) continuation.NestedName (machine_of (named k outer left) v) (Ok continuation.End) (machine_of n w) = rw s at d.does in
       subst (λ (ys : List Frame). Runs (env_of output m) p (bare before) continuation.End (machine_over ys n w)) (frames_kept k n outer left placed)
-      (name_runs before (machine_of k v) (machine_of n w) outer left x no_text (ap (λ (z : Parser N). z.stack) placed) does)
+      (name_runs before (machine_of k v) (machine_of n w) outer left x no_text (ap (λ (z : Parser). z.stack.frames) placed) does)
 
   -- a name was not read or not printed
-  pub named_stops : (m k n z : Parser N) (v w : V) (outer left : ℕ) (stop : StepError) (p : Continuation) (before : Machine V) → k.source ≡ m.source → before.stack ≡ k.stack → Placed (named k outer left) n → z ≡ restacked n (n.stack ++ frames_of n outer left)
+  pub named_stops : (m k n z : Parser) (v w : V) (outer left : ℕ) (stop : StepError) (p : Continuation) (before : Machine V) → k.source ≡ m.source → before.stack ≡ k.stack.frames → Placed (named k outer left) n → z ≡ restacked n (n.stack.frames ++ frames_of n outer left)
       → Performed output continuation.NestedName (named k outer left) v (Err stop) n w → Runs (env_of output m) p (bare before) continuation.End (machine_over (frames_of k outer (left + 1)) k v) → PerformsLast (env_of output m) p before (Err stop) (machine_of z w)
   named_stops m k n z v w outer left stop p before s below placed pushed d x =
       let does : PerformsAt (env_of output m) continuation.NestedName (machine_of (named k outer left) v) (Err stop) (machine_of n w) = rw s at d.does in
-      let stacks : n.stack ≡ k.stack = ap (λ (y : Parser N). y.stack) placed in
-      let same : before.stack ++ frames_of k outer left ≡ n.stack ++ frames_of n outer left = ap (λ (ys : List Frame). ys ++ frames_of k outer left) (below ∙ sym stacks) ∙ ap (λ (ys : List Frame). n.stack ++ ys) (frames_kept k n outer left placed) in
+      let stacks : n.stack.frames ≡ k.stack.frames = ap (λ (y : Parser). y.stack.frames) placed in
+      let same : before.stack ++ frames_of k outer left ≡ n.stack.frames ++ frames_of n outer left = ap (λ (ys : List Frame). ys ++ frames_of k outer left) (below ∙ sym stacks) ∙ ap (λ (ys : List Frame). n.stack.frames ++ ys) (frames_kept k n outer left placed) in
       let moved = performs_moved stacks (before.stack ++ frames_of k outer left) does in
       record {
         at = continuation.NestedName;
         mid = machine_over (frames_of k outer left) (named k outer left) v;
         runs = name_resumes before (machine_of k v) outer left x;
-        does = subst (λ (y : Parser N). PerformsAt (env_of output m) continuation.NestedName (machine_over (before.stack ++ frames_of k outer left) (named k outer left) v) (Err stop) (machine_of y w)) (sym pushed)
+        does = subst (λ (y : Parser). PerformsAt (env_of output m) continuation.NestedName (machine_over (before.stack ++ frames_of k outer left) (named k outer left) v) (Err stop) (machine_of y w)) (sym pushed)
             (subst (λ (ys : List Frame). PerformsAt (env_of output m) continuation.NestedName (machine_over (before.stack ++ frames_of k outer left) (named k outer left) v) (Err stop) (machine_over ys n w)) same moved);
       }
 
   -- no name is left
-  pub named_ends : (m k : Parser N) (v : V) (outer left : ℕ) (p : Continuation) (before : Machine V) → left ≤ 0 → before.stack ≡ k.stack → k.state.pending_text ≡ None → Runs (env_of output m) p (bare before) continuation.End (machine_over (frames_of k outer left) k v)
+  pub named_ends : (m k : Parser) (v : V) (outer left : ℕ) (p : Continuation) (before : Machine V) → left ≤ 0 → before.stack ≡ k.stack.frames → k.state.pending_text ≡ None → Runs (env_of output m) p (bare before) continuation.End (machine_over (frames_of k outer left) k v)
       → PerformsLast (env_of output m) p before (Ok continuation.End) (machine_of k v)
   named_ends m k v outer left p before none below no_text x =
       let zero : left ≡ 0 = omega arith in
-      let same : k.stack ≡ before.stack ++ frames_of k outer left = sym below ∙ (sym (append-nil before.stack) ∙ ap (λ (ys : List Frame). before.stack ++ ys) (sym (ap (frames_of k outer) zero ∙ frames_none k.state.in_value k.state.lifetimes outer))) in
+      let same : k.stack.frames ≡ before.stack ++ frames_of k outer left = sym below ∙ (sym (append-nil before.stack) ∙ ap (λ (ys : List Frame). before.stack ++ ys) (sym (ap (frames_of k outer) zero ∙ frames_none k.state.in_value k.state.lifetimes outer))) in
       record {
         at = continuation.End;
         mid = machine_over (frames_of k outer left) k v;
@@ -255,13 +255,13 @@ module _ {N : ℕ} {V : Type 0} (output : Ghosts V) where
   -- Paths that are nested in one another.
 
   -- the machine of a parser after the tags of `count` nested paths, with their frames alone
-  abbrev pub begun : Parser N → V → ℕ → ℕ → ℕ → ℕ → Machine V
+  abbrev pub begun : Parser → V → ℕ → ℕ → ℕ → ℕ → Machine V
   begun m v outer count at n = machine (record m.state { depth_left = outer - count; place = Some at }) (frames_of m outer count) v n
 
-  abbrev pub Begins : Parser N → V → ℕ → ℕ → ℕ → ℕ → Type 0
+  abbrev pub Begins : Parser → V → ℕ → ℕ → ℕ → ℕ → Type 0
   Begins m v outer count at n = Runs (env_of output m) continuation.Path (bare (machine_of m v)) continuation.Path (begun m v outer count at n)
 
-  pub begins : (m : Parser N) (v : V) (at : ℕ) → m.state.place ≡ Some at → Begins m v m.state.depth_left 0 at m.looks
+  pub begins : (m : Parser) (v : V) (at : ℕ) → m.state.place ≡ Some at → Begins m v m.state.depth_left 0 at m.looks
   begins m v at k =
       let env = env_of output m in
       let whole : m.state.depth_left ≡ m.state.depth_left - 0 = omega arith in
@@ -270,7 +270,7 @@ module _ {N : ℕ} {V : Type 0} (output : Ghosts V) where
       (subst (λ (i : Place). Runs env continuation.Path (bare (machine_of m v)) continuation.Path (machine (record m.state { place = i }) [] v m.looks)) k runs_none))
 
   -- one more nested path begins
-  pub begins_more : (m : Parser N) (v : V) (outer count at next letter after l : ℕ) → Begins m v outer count at l → 0 < outer - count → Some (78, next) ≡ byte_at m.source.symbol.now at → Some (letter, after) ≡ namespace_at m.source.symbol.now next → is_upper letter ≡ false → m.state.pending_text ≡ None
+  pub begins_more : (m : Parser) (v : V) (outer count at next letter after l : ℕ) → Begins m v outer count at l → 0 < outer - count → Some (78, next) ≡ byte_at m.source.symbol.now at → Some (letter, after) ≡ namespace_at m.source.symbol.now next → is_upper letter ≡ false → m.state.pending_text ≡ None
       → Fits continuation.Path (outer - count) m.state.lifetimes → Begins m v outer (count + 1) after (l + 2)
   begins_more m v outer count at next letter after l x left tag namespace plain no_text fits =
       let one : StepDone (env_of output m) continuation.Path (begun m v outer count at l) (Ok continuation.Path) (machine (record m.state { depth_left = outer - count - 1; place = Some after }) (frames_of m outer count ++ frame_of continuation.NestedName m.state.in_value 118 (outer - count - 1) m.state.lifetimes ∷ []) v (l + 2)) =
@@ -280,93 +280,93 @@ module _ {N : ℕ} {V : Type 0} (output : Ghosts V) where
       (subst (λ (d : ℕ). Runs (env_of output m) continuation.Path (bare (machine_of m v)) continuation.Path (machine (record m.state { depth_left = d; place = Some after }) (frames_of m outer count ++ frame_of continuation.NestedName m.state.in_value 118 (outer - count - 1) m.state.lifetimes ∷ []) v (l + 2))) deeper (runs_step x (λ k. k) one))
 
   -- the machine above the stack of the parser
-  abbrev pub deep : Parser N → V → ℕ → ℕ → ℕ → ℕ → Machine V
-  deep m v outer count at l = raised m.stack (begun m v outer count at l)
+  abbrev pub deep : Parser → V → ℕ → ℕ → ℕ → ℕ → Machine V
+  deep m v outer count at l = raised m.stack.frames (begun m v outer count at l)
 
   -- what the last path does above the frames
-  abbrev pub Deep : Parser N → V → ℕ → ℕ → ℕ → ℕ → Result Continuation StepError → Parser N → V → Type 0
+  abbrev pub Deep : Parser → V → ℕ → ℕ → ℕ → ℕ → Result Continuation StepError → Parser → V → Type 0
   Deep m v outer count at l r z w = PerformsAt (env_of output m) continuation.Path (deep m v outer count at l) r (machine_of z w)
 
   -- it is the last of the steps
-  pub deep_last : (m z : Parser N) (v w : V) (outer count at l : ℕ) (r : Result Continuation StepError) → Begins m v outer count at l → Deep m v outer count at l r z w → PerformsLast (env_of output m) continuation.Path (machine_of m v) r (machine_of z w)
+  pub deep_last : (m z : Parser) (v w : V) (outer count at l : ℕ) (r : Result Continuation StepError) → Begins m v outer count at l → Deep m v outer count at l r z w → PerformsLast (env_of output m) continuation.Path (machine_of m v) r (machine_of z w)
   deep_last m z v w outer count at l r x d = record { at = continuation.Path; mid = begun m v outer count at l; runs = x; does = d }
 
   -- it is the only one if no nested path was deferred
-  pub deep_alone : (m z : Parser N) (v w : V) (outer count at l : ℕ) (r : Result Continuation StepError) → outer ≡ m.state.depth_left → count ≡ 0 → m.state.place ≡ Some at → l ≡ m.looks → Same m z → Deep m v outer count at l r z w → Performed output continuation.Path m v r z w
+  pub deep_alone : (m z : Parser) (v w : V) (outer count at l : ℕ) (r : Result Continuation StepError) → outer ≡ m.state.depth_left → count ≡ 0 → m.state.place ≡ Some at → l ≡ m.looks → Same m z → Deep m v outer count at l r z w → Performed output continuation.Path m v r z w
   deep_alone m z v w outer count at l r levels none place looks same d =
       let whole : outer - count ≡ m.state.depth_left = omega arith in
-      let frames : m.stack ++ frames_of m outer count ≡ m.stack = ap (λ (ys : List Frame). m.stack ++ ys) (ap (frames_of m outer) none ∙ frames_none m.state.in_value m.state.lifetimes outer) ∙ append-nil m.stack in
+      let frames : m.stack.frames ++ frames_of m outer count ≡ m.stack.frames = ap (λ (ys : List Frame). m.stack.frames ++ ys) (ap (frames_of m outer) none ∙ frames_none m.state.in_value m.state.lifetimes outer) ∙ append-nil m.stack.frames in
       record {
-        does = subst (λ (n : ℕ). PerformsAt (env_of output m) continuation.Path (machine m.state m.stack v n) r (machine_of z w)) looks
+        does = subst (λ (n : ℕ). PerformsAt (env_of output m) continuation.Path (machine m.state m.stack.frames v n) r (machine_of z w)) looks
             (subst (λ (ys : List Frame). PerformsAt (env_of output m) continuation.Path (machine m.state ys v l) r (machine_of z w)) frames
-            (subst (λ (i : Place). PerformsAt (env_of output m) continuation.Path (machine (record m.state { place = i }) (m.stack ++ frames_of m outer count) v l) r (machine_of z w)) (sym place)
-            (subst (λ (n : ℕ). PerformsAt (env_of output m) continuation.Path (machine (record m.state { depth_left = n; place = Some at }) (m.stack ++ frames_of m outer count) v l) r (machine_of z w)) whole d)));
+            (subst (λ (i : Place). PerformsAt (env_of output m) continuation.Path (machine (record m.state { place = i }) (m.stack.frames ++ frames_of m outer count) v l) r (machine_of z w)) (sym place)
+            (subst (λ (n : ℕ). PerformsAt (env_of output m) continuation.Path (machine (record m.state { depth_left = n; place = Some at }) (m.stack.frames ++ frames_of m outer count) v l) r (machine_of z w)) whole d)));
         same = same;
       }
 
   -- its frames were pushed before that, and it has no tag
-  pub deep_untagged : (m z : Parser N) (v : V) (outer count at l n : ℕ) → 0 < outer - count → None ≡ byte_at m.source.symbol.now at → n ≡ l + 1 → m.state.pending_text ≡ None → z ≡ restacked (looked m n) (m.stack ++ frames_of m outer count) → Deep m v outer count at l (Err (Abort fixed.Invalid)) z v
+  pub deep_untagged : (m z : Parser) (v : V) (outer count at l n : ℕ) → 0 < outer - count → None ≡ byte_at m.source.symbol.now at → n ≡ l + 1 → m.state.pending_text ≡ None → z ≡ restacked (looked m n) (m.stack.frames ++ frames_of m outer count) → Deep m v outer count at l (Err (Abort fixed.Invalid)) z v
   deep_untagged m z v outer count at l n left missing look no_text pushed =
-      let d : Deep m v outer count at l (Err (Abort fixed.Invalid)) (restacked (looked m n) (m.stack ++ frames_of m outer count)) v = path_untagged at refl left missing look no_text in
+      let d : Deep m v outer count at l (Err (Abort fixed.Invalid)) (restacked (looked m n) (m.stack.frames ++ frames_of m outer count)) v = path_untagged at refl left missing look no_text in
       rw pushed d
 
-  pub deep_too_deep : (m z : Parser N) (v : V) (outer count at l : ℕ) → outer - count ≡ 0 → m.state.pending_text ≡ None → z ≡ restacked (looked m l) (m.stack ++ frames_of m outer count) → Deep m v outer count at l (Err (Abort fixed.Recursion)) z v
+  pub deep_too_deep : (m z : Parser) (v : V) (outer count at l : ℕ) → outer - count ≡ 0 → m.state.pending_text ≡ None → z ≡ restacked (looked m l) (m.stack.frames ++ frames_of m outer count) → Deep m v outer count at l (Err (Abort fixed.Recursion)) z v
   deep_too_deep m z v outer count at l none no_text pushed =
-      let d : Deep m v outer count at l (Err (Abort fixed.Recursion)) (restacked (looked m l) (m.stack ++ frames_of m outer count)) v = path_too_deep at refl none no_text in
+      let d : Deep m v outer count at l (Err (Abort fixed.Recursion)) (restacked (looked m l) (m.stack.frames ++ frames_of m outer count)) v = path_too_deep at refl none no_text in
       rw pushed d
 
-  pub deep_unnamed : (m z : Parser N) (v : V) (outer count at next l n : ℕ) → 0 < outer - count → Some (78, next) ≡ byte_at m.source.symbol.now at → None ≡ namespace_at m.source.symbol.now next → n ≡ l + 2 → m.state.pending_text ≡ None → z ≡ restacked (looked m n) (m.stack ++ frames_of m outer count)
+  pub deep_unnamed : (m z : Parser) (v : V) (outer count at next l n : ℕ) → 0 < outer - count → Some (78, next) ≡ byte_at m.source.symbol.now at → None ≡ namespace_at m.source.symbol.now next → n ≡ l + 2 → m.state.pending_text ≡ None → z ≡ restacked (looked m n) (m.stack.frames ++ frames_of m outer count)
       → Deep m v outer count at l (Err (Abort fixed.Invalid)) z v
   deep_unnamed m z v outer count at next l n left tag missing look no_text pushed =
-      let d : Deep m v outer count at l (Err (Abort fixed.Invalid)) (restacked (looked m n) (m.stack ++ frames_of m outer count)) v =
+      let d : Deep m v outer count at l (Err (Abort fixed.Invalid)) (restacked (looked m n) (m.stack.frames ++ frames_of m outer count)) v =
       path_tagged at 78 next (l + 1) refl left tag refl (path_as 78 kind.NestedName (search rules) (omega arith) (omega arith) (omega arith) (namespace_missing next refl missing (omega arith) no_text)) in
       rw pushed d
 
   -- the frame of a nested path is on top
-  pub deep_nested : (m z : Parser N) (v : V) (outer count at next letter after l n : ℕ) → 0 < outer - count → Some (78, next) ≡ byte_at m.source.symbol.now at → Some (letter, after) ≡ namespace_at m.source.symbol.now next → n ≡ l + 2 → m.state.pending_text ≡ None
+  pub deep_nested : (m z : Parser) (v : V) (outer count at next letter after l n : ℕ) → 0 < outer - count → Some (78, next) ≡ byte_at m.source.symbol.now at → Some (letter, after) ≡ namespace_at m.source.symbol.now next → n ≡ l + 2 → m.state.pending_text ≡ None
       → Fits continuation.Path (outer - count) m.state.lifetimes
-      → z ≡ record m { state = record m.state { depth_left = outer - count - 1; place = Some after }; stack = (m.stack ++ frames_of m outer count) ++ frame_of continuation.NestedName m.state.in_value letter (outer - count - 1) m.state.lifetimes ∷ []; looks = n }
+      → z ≡ record m { state = record m.state { depth_left = outer - count - 1; place = Some after }; stack = record m.stack { frames = (m.stack.frames ++ frames_of m outer count) ++ frame_of continuation.NestedName m.state.in_value letter (outer - count - 1) m.state.lifetimes ∷ [] }; looks = n }
       → Deep m v outer count at l (Ok continuation.Path) z v
   deep_nested m z v outer count at next letter after l n left tag namespace look no_text fits pushed =
-      let can_read : CanRead continuation.NestedName (length (m.stack ++ frames_of m outer count) + 1) (record m.state { depth_left = outer - count - 1; place = Some next }) (m.stack ++ frames_of m outer count) = record { no_pending_text = no_text; room = omega arith; fits = omega (arith, fits) } in
-      let d : Deep m v outer count at l (Ok continuation.Path) (record m { state = record m.state { depth_left = outer - count - 1; place = Some after }; stack = (m.stack ++ frames_of m outer count) ++ frame_of continuation.NestedName m.state.in_value letter (outer - count - 1) m.state.lifetimes ∷ []; looks = n }) v =
+      let can_read : CanRead continuation.NestedName (length (m.stack.frames ++ frames_of m outer count) + 1) (record m.state { depth_left = outer - count - 1; place = Some next }) (m.stack.frames ++ frames_of m outer count) = record { no_pending_text = no_text; room = omega arith; fits = omega (arith, fits) } in
+      let d : Deep m v outer count at l (Ok continuation.Path) (record m { state = record m.state { depth_left = outer - count - 1; place = Some after }; stack = record m.stack { frames = (m.stack.frames ++ frames_of m outer count) ++ frame_of continuation.NestedName m.state.in_value letter (outer - count - 1) m.state.lifetimes ∷ [] }; looks = n }) v =
       path_tagged at 78 next (l + 1) refl left tag refl (path_as 78 kind.NestedName (search rules) (omega arith) (omega arith) (omega arith) (nested_continues next letter after refl namespace (omega arith) can_read refl)) in
       rw pushed d
 
   -- another path is in the nested ones
-  pub deep_other : (m z : Parser N) (v w : V) (outer count at tag next l n : ℕ) (r : Result Continuation StepError) → 0 < outer - count → Some (tag, next) ≡ byte_at m.source.symbol.now at → n ≡ l + 1
-      → PerformedRest output (path m.state.in_value tag) 6 8 9 (record m { state = record m.state { depth_left = outer - count - 1; place = Some next }; stack = m.stack ++ frames_of m outer count; looks = n }) v r z w → Deep m v outer count at l r z w
+  pub deep_other : (m z : Parser) (v w : V) (outer count at tag next l n : ℕ) (r : Result Continuation StepError) → 0 < outer - count → Some (tag, next) ≡ byte_at m.source.symbol.now at → n ≡ l + 1
+      → PerformedRest output (path m.state.in_value tag) 6 8 9 (record m { state = record m.state { depth_left = outer - count - 1; place = Some next }; stack = record m.stack { frames = m.stack.frames ++ frames_of m outer count }; looks = n }) v r z w → Deep m v outer count at l r z w
   deep_other m z v w outer count at tag next l n r left read look d = path_tagged at tag next n refl left read look d.does
 
   -- the parser after the `C` of a crate
-  abbrev pub in_crate : Parser N → ℕ → ℕ → ℕ → ℕ → Parser N
+  abbrev pub in_crate : Parser → ℕ → ℕ → ℕ → ℕ → Parser
   in_crate m outer count next n = record m { state = record m.state { depth_left = outer - count - 1; place = Some next }; looks = n }
 
   -- a crate is in the nested ones, whose frames are not on its stack
-  crate_deep : (m k : Parser N) (v w : V) (outer count at next l n : ℕ) (performed : Result Continuation StepError) → 0 < outer - count → Some (67, next) ≡ byte_at m.source.symbol.now at → n ≡ l + 1 → PerformedRest output (crate_path m.state.in_value) 6 1 0 (in_crate m outer count next n) v performed k w → Placed (in_crate m outer count next n) k
-      → PerformsAt (env_of output m) continuation.Path (deep m v outer count at l) performed (machine_over (m.stack ++ frames_of m outer count) k w)
+  crate_deep : (m k : Parser) (v w : V) (outer count at next l n : ℕ) (performed : Result Continuation StepError) → 0 < outer - count → Some (67, next) ≡ byte_at m.source.symbol.now at → n ≡ l + 1 → PerformedRest output (crate_path m.state.in_value) 6 1 0 (in_crate m outer count next n) v performed k w → Placed (in_crate m outer count next n) k
+      → PerformsAt (env_of output m) continuation.Path (deep m v outer count at l) performed (machine_over (m.stack.frames ++ frames_of m outer count) k w)
   crate_deep m k v w outer count at next l n performed left tag look d placed =
-      let stack : k.stack ≡ m.stack = ap (λ (q : Parser N). q.stack) placed in
-      let moved = performs_moved stack (m.stack ++ frames_of m outer count) d.does in
+      let stack : k.stack.frames ≡ m.stack.frames = ap (λ (q : Parser). q.stack.frames) placed in
+      let moved = performs_moved stack (m.stack.frames ++ frames_of m outer count) d.does in
       path_tagged at 67 next n refl left tag look (path_as 67 kind.CrateRoot (search rules) (omega arith) (omega arith) (omega arith) moved)
 
   -- the crate alone
-  pub deep_crate : (m k : Parser N) (v w : V) (outer count at next l n : ℕ) (performed : Result Continuation StepError) → count ≡ 0 → 0 < outer - count → Some (67, next) ≡ byte_at m.source.symbol.now at → n ≡ l + 1 → PerformedRest output (crate_path m.state.in_value) 6 1 0 (in_crate m outer count next n) v performed k w → Placed (in_crate m outer count next n) k
+  pub deep_crate : (m k : Parser) (v w : V) (outer count at next l n : ℕ) (performed : Result Continuation StepError) → count ≡ 0 → 0 < outer - count → Some (67, next) ≡ byte_at m.source.symbol.now at → n ≡ l + 1 → PerformedRest output (crate_path m.state.in_value) 6 1 0 (in_crate m outer count next n) v performed k w → Placed (in_crate m outer count next n) k
       → Deep m v outer count at l performed k w
   deep_crate m k v w outer count at next l n performed none left tag look d placed =
-      let stack : k.stack ≡ m.stack = ap (λ (q : Parser N). q.stack) placed in
-      let frames : m.stack ++ frames_of m outer count ≡ k.stack = ap (λ (ys : List Frame). m.stack ++ ys) (ap (frames_of m outer) none ∙ frames_none m.state.in_value m.state.lifetimes outer) ∙ (append-nil m.stack ∙ sym stack) in
+      let stack : k.stack.frames ≡ m.stack.frames = ap (λ (q : Parser). q.stack.frames) placed in
+      let frames : m.stack.frames ++ frames_of m outer count ≡ k.stack.frames = ap (λ (ys : List Frame). m.stack.frames ++ ys) (ap (frames_of m outer) none ∙ frames_none m.state.in_value m.state.lifetimes outer) ∙ (append-nil m.stack.frames ∙ sym stack) in
       subst (λ (ys : List Frame). PerformsAt (env_of output m) continuation.Path (deep m v outer count at l) performed (machine_over ys k w)) frames (crate_deep m k v w outer count at next l n performed left tag look d placed)
 
   -- the names after it
-  pub crate_last : (m k z : Parser N) (v w y : V) (outer count at next l n : ℕ) (performed r : Result Continuation StepError) → Begins m v outer count at l → 0 < outer - count → Some (67, next) ≡ byte_at m.source.symbol.now at → n ≡ l + 1 → PerformedRest output (crate_path m.state.in_value) 6 1 0 (in_crate m outer count next n) v performed k w
+  pub crate_last : (m k z : Parser) (v w y : V) (outer count at next l n : ℕ) (performed r : Result Continuation StepError) → Begins m v outer count at l → 0 < outer - count → Some (67, next) ≡ byte_at m.source.symbol.now at → n ≡ l + 1 → PerformedRest output (crate_path m.state.in_value) 6 1 0 (in_crate m outer count next n) v performed k w
       → Placed (in_crate m outer count next n) k → NamesFollow output performed count outer k w r z y → PerformsLast (env_of output m) continuation.Path (machine_of m v) r (machine_of z y)
   crate_last m k z v w y outer count at next l n performed r x left tag look d placed follow =
-      let source : k.source ≡ m.source = ap (λ (q : Parser N). q.source) placed in
-      let stack : k.stack ≡ m.stack = ap (λ (q : Parser N). q.stack) placed in
+      let source : k.source ≡ m.source = ap (λ (q : Parser). q.source) placed in
+      let stack : k.stack.frames ≡ m.stack.frames = ap (λ (q : Parser). q.stack.frames) placed in
       let frames : frames_of m outer count ≡ frames_of k outer count =
-      ap (λ (a : Bool). name_frames a m.state.lifetimes outer count) (sym (ap (λ (q : Parser N). q.state.in_value) placed)) ∙ ap (λ (b : ℕ). name_frames k.state.in_value b outer count) (sym (ap (λ (q : Parser N). q.state.lifetimes) placed)) in
-      let same : m.stack ++ frames_of m outer count ≡ k.stack ++ frames_of k outer count = ap (λ (ys : List Frame). ys ++ frames_of m outer count) (sym stack) ∙ ap (λ (ys : List Frame). k.stack ++ ys) frames in
-      let over : PerformsAt (env_of output m) continuation.Path (deep m v outer count at l) performed (machine_over (k.stack ++ frames_of k outer count) k w) =
+      ap (λ (a : Bool). name_frames a m.state.lifetimes outer count) (sym (ap (λ (q : Parser). q.state.in_value) placed)) ∙ ap (λ (b : ℕ). name_frames k.state.in_value b outer count) (sym (ap (λ (q : Parser). q.state.lifetimes) placed)) in
+      let same : m.stack.frames ++ frames_of m outer count ≡ k.stack.frames ++ frames_of k outer count = ap (λ (ys : List Frame). ys ++ frames_of m outer count) (sym stack) ∙ ap (λ (ys : List Frame). k.stack.frames ++ ys) frames in
+      let over : PerformsAt (env_of output m) continuation.Path (deep m v outer count at l) performed (machine_over (k.stack.frames ++ frames_of k outer count) k w) =
       subst (λ (ys : List Frame). PerformsAt (env_of output m) continuation.Path (deep m v outer count at l) performed (machine_over ys k w)) same (crate_deep m k v w outer count at next l n performed left tag look d placed) in
       rw source at (follow continuation.Path continuation.Path (machine_of m v) (begun m v outer count at l) (rw source x) (sym stack) frames (rw source over))

@@ -8,7 +8,7 @@ use Rattle.demangle_v0_tokens.specs.declared.output.Output.{Ghosts}
 use Rattle.demangle_v0_tokens.specs.declared.token.Token.{Token}
 use Rattle.demangle_sink.specs.declared.SinkRefused.{SinkRefused}
 use Rattle.demangle_v0.specs.Loops.{StepDone, ValidUnfinished}
-use Rattle.demangle_v0.specs.Parsers.{source_form, UnfinishedIsValid, Same, PerformedRest, Performed, Advanced, AdvancedRest, AdvancedWithoutOutput, AdvancedUnfolded, unused_output, env_of, checkpoint_of}
+use Rattle.demangle_v0.specs.Parsers.{UnfinishedIsValid, Same, PerformedRest, Performed, Advanced, AdvancedRest, AdvancedWithoutOutput, AdvancedUnfolded, unused_output, env_of, checkpoint_of}
 use Rattle.demangle_v0.specs.Steps.{StepResult, Performs, Emits, StepPart, Machine, env, machine}
 use Rattle.demangle_v0.specs.declared.parser.Continuation.{Continuation}
 use Rattle.demangle_v0.specs.declared.parser.State.{State}
@@ -67,27 +67,27 @@ does_trace output b h v part s t stack now n m r d = record {
   if_ok = λ k _ _. k;
 }
 
-pub advanced : {N : ℕ} {V : Type 0} (output : Ghosts V) (v : V) (p : Continuation) {m k : Parser N} {r : Result Continuation StepError} → Advanced p m r k → Performed output p m v r k v
+pub advanced : {V : Type 0} (output : Ghosts V) (v : V) (p : Continuation) {m k : Parser} {r : Result Continuation StepError} → Advanced p m r k → Performed output p m v r k v
 advanced output v p {m} {k} {r} d = let x = d output.is_printed in record {
-  does = does_trace output m.source.symbol.now (source_form m.source) v _ m.state k.state m.stack k.stack m.looks k.looks r x.does;
+  does = does_trace output m.source.symbol.now m.source.form v _ m.state k.state m.stack.frames k.stack.frames m.looks k.looks r x.does;
   same = x.same;
 }
 
 -- if the output does not print
-pub advanced_without_output : {N : ℕ} {V : Type 0} (output : Ghosts V) (v : V) (p : Continuation) {m k : Parser N} {r : Result Continuation StepError} → (output.is_printed ≡ true → false ≡ true) → AdvancedWithoutOutput p m r k → Performed output p m v r k v
+pub advanced_without_output : {V : Type 0} (output : Ghosts V) (v : V) (p : Continuation) {m k : Parser} {r : Result Continuation StepError} → (output.is_printed ≡ true → false ≡ true) → AdvancedWithoutOutput p m r k → Performed output p m v r k v
 advanced_without_output output v p {m} {k} {r} q x = go output.is_printed refl
   where
     go : (b : Bool) → output.is_printed ≡ b → Performed output p m v r k v
     go true e = absurd (false≢true (q e))
     go false e = record {
-      does = does_trace output m.source.symbol.now (source_form m.source) v _ m.state k.state m.stack k.stack m.looks k.looks r (rw e x.does);
+      does = does_trace output m.source.symbol.now m.source.form v _ m.state k.state m.stack.frames k.stack.frames m.looks k.looks r (rw e x.does);
       same = x.same;
     }
 
 -- at an argument that is not folded
-pub advanced_unfolded : {N : ℕ} {V : Type 0} (output : Ghosts V) (v : V) (is_first : Bool) (p : Continuation) {m k : Parser N} {r : Result Continuation StepError} → is_first && (output.is_printed && m.source.fold_arguments) ≡ false → AdvancedUnfolded is_first p m r k → Performed output p m v r k v
+pub advanced_unfolded : {V : Type 0} (output : Ghosts V) (v : V) (is_first : Bool) (p : Continuation) {m k : Parser} {r : Result Continuation StepError} → is_first && (output.is_printed && m.source.form.fold_arguments) ≡ false → AdvancedUnfolded is_first p m r k → Performed output p m v r k v
 advanced_unfolded output v is_first p {m} {k} {r} h d = let x = d output.is_printed h in record {
-  does = does_trace output m.source.symbol.now (source_form m.source) v _ m.state k.state m.stack k.stack m.looks k.looks r x.does;
+  does = does_trace output m.source.symbol.now m.source.form v _ m.state k.state m.stack.frames k.stack.frames m.looks k.looks r x.does;
   same = x.same;
 }
 
@@ -95,16 +95,16 @@ pub unless_both : (x y : Bool) → (x ≡ true → y ≡ false) → x && y ≡ f
 unless_both true y h = h refl
 unless_both false y h = refl
 
-pub advanced_rest : {N : ℕ} {V : Type 0} (output : Ghosts V) (v : V) (items : Items) (words weight above : ℕ) {m k : Parser N} {r : Result Continuation StepError} → AdvancedRest items words weight above m r k → PerformedRest output items words weight above m v r k v
+pub advanced_rest : {V : Type 0} (output : Ghosts V) (v : V) (items : Items) (words weight above : ℕ) {m k : Parser} {r : Result Continuation StepError} → AdvancedRest items words weight above m r k → PerformedRest output items words weight above m v r k v
 advanced_rest output v items words weight above {m} {k} {r} d = let x = d output.is_printed in record {
-  does = does_trace output m.source.symbol.now (source_form m.source) v _ m.state k.state m.stack k.stack m.looks k.looks r x.does;
+  does = does_trace output m.source.symbol.now m.source.form v _ m.state k.state m.stack.frames k.stack.frames m.looks k.looks r x.does;
   same = x.same;
 }
 
 -- A step of a parser that was at another step before, with the same source.
-pub stepped_as : {N : ℕ} {V : Type 0} (output : Ghosts V) (m k : Parser N) {p : Continuation} {t u : Machine V} {r : Result Continuation SinkRefused} → Same m k → StepDone (env_of output k) p t r u → StepDone (env_of output m) p t r u
-stepped_as output m k (e, h, f) d = rw (← e, ← h, ← f) d
+pub stepped_as : {V : Type 0} (output : Ghosts V) (m k : Parser) {p : Continuation} {t u : Machine V} {r : Result Continuation SinkRefused} → Same m k → StepDone (env_of output k) p t r u → StepDone (env_of output m) p t r u
+stepped_as output m k (e, h, n) d = rw (← e, ← h) d
 
 -- The rest that is left to print, for a parser of the same source.
-pub left_as : {N : ℕ} (n : ℕ) (m k : Parser N) (r : Result (Option Unfinished) SinkRefused) → Same m k → ValidUnfinished m.source.symbol.now (source_form m.source) n r (checkpoint_of k) k.stack k.looks → UnfinishedIsValid n r k
-left_as n m k r (e, h, f) d = rw (e, h, f) d
+pub left_as : (n : ℕ) (m k : Parser) (r : Result (Option Unfinished) SinkRefused) → Same m k → ValidUnfinished m.source.symbol.now m.source.form n r (checkpoint_of k) k.stack.frames k.looks → UnfinishedIsValid n r k
+left_as n m k r (e, h, room) d = rw (e, h) d

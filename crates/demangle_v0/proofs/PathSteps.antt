@@ -36,21 +36,21 @@ module _ {V : Type 0} (output : Ghosts V) (b : List ℕ) (form : Form) where
   -- Crates and nested paths.
 
   abbrev path_trace : Bool → ℕ → ℕ → Place → ℕ → Trace
-  path_trace v left n i c = with_closed_bracket (of form.include_hash output.is_printed (parse (path v c) (context_at b form.fold_arguments output.is_printed left n) i))
+  path_trace v left n i c = with_closed_bracket (of form output.is_printed (parse (path v c) (context_at b form output.is_printed left n) i))
 
   -- A path by its tag.
 
-  path_so : (v : Bool) (left n : ℕ) (i : Place) (c : ℕ) (o : Option PathKind) → o ≡ found c path_kinds → path_trace v left n i c ≡ with_closed_bracket (of form.include_hash output.is_printed (parse (some_or invalid o (path_of v)) (context_at b form.fold_arguments output.is_printed left n) i))
+  path_so : (v : Bool) (left n : ℕ) (i : Place) (c : ℕ) (o : Option PathKind) → o ≡ found c path_kinds → path_trace v left n i c ≡ with_closed_bracket (of form output.is_printed (parse (some_or invalid o (path_of v)) (context_at b form output.is_printed left n) i))
   path_so v left n i c o e =
-      ap (λ (p : Items). with_closed_bracket (of form.include_hash output.is_printed (parse p (context_at b form.fold_arguments output.is_printed left n) i))) (row_found c invalid (path_of v) path_kinds)
-      ∙ ap (λ (o : Option PathKind). with_closed_bracket (of form.include_hash output.is_printed (parse (some_or invalid o (path_of v)) (context_at b form.fold_arguments output.is_printed left n) i))) (sym e)
+      ap (λ (p : Items). with_closed_bracket (of form output.is_printed (parse p (context_at b form output.is_printed left n) i))) (row_found c invalid (path_of v) path_kinds)
+      ∙ ap (λ (o : Option PathKind). with_closed_bracket (of form output.is_printed (parse (some_or invalid o (path_of v)) (context_at b form output.is_printed left n) i))) (sym e)
 
   -- A path.
 
   abbrev path_at : Bool → ℕ → ℕ → ℕ → Place → Bool → Trace
   path_at v c left n i o = trace_at b form output.is_printed continuation.Path v c left n i o
 
-  path_opens : (v : Bool) (c left n i : ℕ) (o : Bool) → 0 < left → path_at v c left n (Some i) o ≡ with_closed_bracket (of form.include_hash output.is_printed (parse (byte (path v)) (context_at b form.fold_arguments output.is_printed (left - 1) n) (Some i)))
+  path_opens : (v : Bool) (c left n i : ℕ) (o : Bool) → 0 < left → path_at v c left n (Some i) o ≡ with_closed_bracket (of form output.is_printed (parse (byte (path v)) (context_at b form output.is_printed (left - 1) n) (Some i)))
   unfolding trace_at parse level_of levels
   path_opens v c zero n i o l = absurd (omega (arith, l))
   path_opens v c (suc left) n i o l = rw sub-one refl
@@ -59,17 +59,17 @@ module _ {V : Type 0} (output : Ghosts V) (b : List ℕ) (form : Form) where
 
   pub crate_so : (v : Bool) (left n i : ℕ) → path_trace v left n (Some i) (code "C") ≡ group_trace output b form (crate_group b i)
   unfolding parse
-  crate_so v left n i = group_shut output b form _ (crate_group b i) _ (crate_reads b form.include_hash form.fold_arguments left output.is_printed n v i)
+  crate_so v left n i = group_shut output b form _ (crate_group b i) _ (crate_reads b form left output.is_printed n v i)
 
   abbrev nested_at : Bool → ℕ → ℕ → ℕ → Place → Bool → Trace
   nested_at v c left n i o = trace_at b form output.is_printed continuation.NestedName v c left n i o
 
   pub nested_so : (v : Bool) (c left n i : ℕ) (o : Bool) → nested_at v c left n (Some i) o ≡ group_trace output b form (nested_group b c i)
   unfolding parse trace_at
-  nested_so v c left n i o = group_shut output b form _ (nested_group b c i) _ (nested_reads b form.include_hash form.fold_arguments left output.is_printed n c i)
+  nested_so v c left n i o = group_shut output b form _ (nested_group b c i) _ (nested_reads b form left output.is_printed n c i)
 
 opened : {V : Type 0} (e : Env V) (s : State) (i : ℕ) → s.place ≡ Some i → 0 < s.depth_left
-    → trace_of_state e.symbol e.form e.output.is_printed continuation.Path s ≡ with_closed_bracket (of e.form.include_hash e.output.is_printed (parse (byte (path s.in_value)) (context_at e.symbol e.form.fold_arguments e.output.is_printed (s.depth_left - 1) s.lifetimes) (Some i)))
+    → trace_of_state e.symbol e.form e.output.is_printed continuation.Path s ≡ with_closed_bracket (of e.form e.output.is_printed (parse (byte (path s.in_value)) (context_at e.symbol e.form e.output.is_printed (s.depth_left - 1) s.lifetimes) (Some i)))
 opened e s i at d = rw at (path_opens e.output e.symbol e.form s.in_value s.letter s.depth_left s.lifetimes i s.is_bracket_open d)
 
 -- A crate's name.
@@ -122,12 +122,12 @@ module _ {V : Type 0} {e : Env V} where
       following {t = t} (4 * (j - i + 1) ∷ []) (omega arith) (opened e t.state i at d ∙ rw (sym q) refl) (record { grows = omega arith; within = omega arith }) (rw at (omega (arith, p.0, p.1, l))) (omega arith) (omega (arith, d)) z
 
   -- the path before the name has failed
-  pub name_unread : {t : Machine V} {v : V} {n : ℕ} → t.state.place ≡ None → LooksWithin t.looks [] n → e.output.prints t.output (texts_of e.symbol e.form.include_hash NameAfterError) (Ok tt) v → e.output.ready v → t.state.pending_text ≡ None
+  pub name_unread : {t : Machine V} {v : V} {n : ℕ} → t.state.place ≡ None → LooksWithin t.looks [] n → e.output.prints t.output (texts_of e.symbol e.form NameAfterError) (Ok tt) v → e.output.ready v → t.state.pending_text ≡ None
       → PerformsAt e continuation.NestedName t (Ok continuation.End) (record t { state = record t.state { is_bracket_open = false }; output = v; looks = n })
   unfolding parse trace_at
   name_unread at p q r k = tells continuation.End [] (omega arith) NameAfterError (rw at refl) q r k p (omega (arith, p.within)) (omega arith) (omega arith) tt
 
-  pub name_unread_refused : {t : Machine V} {s : State} {v : V} {n : ℕ} {f : SinkRefused} → t.state.place ≡ None → LooksWithin t.looks [] n → e.output.prints t.output (texts_of e.symbol e.form.include_hash NameAfterError) (Err f) v → PerformsAt e continuation.NestedName t (Err Sink) (record t { state = s; output = v; looks = n })
+  pub name_unread_refused : {t : Machine V} {s : State} {v : V} {n : ℕ} {f : SinkRefused} → t.state.place ≡ None → LooksWithin t.looks [] n → e.output.prints t.output (texts_of e.symbol e.form NameAfterError) (Err f) v → PerformsAt e continuation.NestedName t (Err Sink) (record t { state = s; output = v; looks = n })
   unfolding parse trace_at
   name_unread_refused at p q = halts [] (omega arith) NameAfterError (empty_trace None false) (rw at refl) q (λ _. refl) p (omega (arith, p.within))
 

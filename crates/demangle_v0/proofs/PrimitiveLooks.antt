@@ -50,10 +50,10 @@ either : {b : List ℕ} {i k m : ℕ} {g h : TokenSpec} (c : Bool) → Brief b i
 either true g h = record { short = omega (arith, g.short); primitive_count = omega (arith, g.primitive_count) }
 either false g h = record { short = omega (arith, h.short); primitive_count = omega (arith, h.primitive_count) }
 
-ident_placed : (b : List ℕ) (i : ℕ) → Placed (i + 1) b (ident_at b i)
+pub ident_placed : (b : List ℕ) (i : ℕ) → Placed (i + 1) b (ident_at b i)
 ident_placed b i = mapped (i + 1) b (identifier_at b i) _ (identifier_placed b i)
 
-hex_placed : (b : List ℕ) (i : ℕ) → Placed (i + 1) b (hex_at b i)
+pub hex_placed : (b : List ℕ) (i : ℕ) → Placed (i + 1) b (hex_at b i)
 hex_placed b i = mapped (i + 1) b (nibbles_at b i) _ (nibbles_placed b i)
 
 abbrev place_of : ℕ → Read ℕ → ℕ

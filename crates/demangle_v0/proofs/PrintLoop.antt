@@ -45,7 +45,7 @@ module _ {V : Type 0} {e : Env V} where
   ran_fail {result = Err f} h d = record { ran = d }
 
   -- the stack is full
-  pub ran_left : {o : Continuation} {first : Machine V} {r to : Checkpoint} {below now : List Frame} {w : V} {began k n : ℕ} {x : Unfinished} → is_skipped e.form.fold_arguments r.continuation ≡ true → Valid r.continuation r.state below → StopsInImplPath e.symbol e.form r below began x k to now n
+  pub ran_left : {o : Continuation} {first : Machine V} {r to : Checkpoint} {below now : List Frame} {w : V} {began k n : ℕ} {x : Unfinished} → is_skipped e.form r.continuation ≡ true → Valid r.continuation r.state below → StopsInImplPath e.symbol e.form r below began x k to now n
       → RanSteps e o first r.continuation (machine r.state below w began) → PrintDone e o first (Ok (Some x)) to now w n
   ran_left {below = below} {began = began} i v k ran = rw k.is_left (record {
     ran = record { began = began; skips = record { below = below; height = sym k.height; skips = i; valid = v; reads = k.reads }; ran = ran };
@@ -133,7 +133,7 @@ within n w room m made l h = let e : looks_a_byte n * w ≤ looks_a_byte n * roo
 
 module _ {S : Type 0} (sink : Sinks S) (b : List ℕ) (form : Form) where
   -- the part that is not printed was read
-  pub ran_skips : {o p q : Continuation} {first t : Machine (SizeLimitedFmtAdapter S)} {s : State} {now : List Frame} {n : ℕ} (k : is_skipped form.fold_arguments p ≡ true) → RanSteps (printing sink b form) o first p t → Skipped b form p t.state t.stack t.looks q s now n
+  pub ran_skips : {o p q : Continuation} {first t : Machine (SizeLimitedFmtAdapter S)} {s : State} {now : List Frame} {n : ℕ} (k : is_skipped form p ≡ true) → RanSteps (printing sink b form) o first p t → Skipped b form p t.state t.stack t.looks q s now n
       → RanSteps (printing sink b form) o first q (record t { state = s; stack = now; looks = n })
   ran_skips {p = p} {t = t} k x z = ran_then x (record {
     bits = allows_looks (allowances (impl_path_trace b form p t.state).events) ∷ [];
@@ -167,9 +167,9 @@ module _ {S : Type 0} (sink : Sinks S) (b : List ℕ) (form : Form) where
       sym (append-nil (action_texts r.bits))
       ∙ (sym (shown_bits r.bits (remaining_trace b form true continuation.End t [])) ∙ (ap (λ (h : Trace). texts_in h.events) (sym r.reads) ∙ whole_shown))
 
-  prefix_shown : {v w : SizeLimitedFmtAdapter S} {m n : ℕ} (d : StoppedAfter (printing sink b form) continuation.Path (begun v m) w n) → action_texts (prefix_of d) ++ (texts_of b form.include_hash d.halts.emitted ++ texts_in (after_broke d).events) ≡ path_texts b form
+  prefix_shown : {v w : SizeLimitedFmtAdapter S} {m n : ℕ} (d : StoppedAfter (printing sink b form) continuation.Path (begun v m) w n) → action_texts (prefix_of d) ++ (texts_of b form d.halts.emitted ++ texts_in (after_broke d).events) ≡ path_texts b form
   prefix_shown d =
-      let texts = texts_of b form.include_hash d.halts.emitted in
+      let texts = texts_of b form d.halts.emitted in
       ap (λ zs. action_texts (prefix_of d) ++ zs) (sym (shown_said texts (after_broke d).events))
       ∙ (sym (shown_bits (prefix_of d) (with_texts true texts (after_broke d))) ∙ (ap (λ (h : Trace). texts_in h.events) (sym (broke_trace d)) ∙ whole_shown))
 
@@ -177,7 +177,7 @@ module _ {S : Type 0} (sink : Sinks S) (b : List ℕ) (form : Form) where
   prints_so {v} {w} (Ok u) ready z = let r = z.ended.1 in subst (λ (ts : List Text). Prints sink v ts (Ok tt) w) (all_shown r) (emitted_prints v w r.bits ready r.emits)
   prints_so {v} {w} (Err f) ready z =
       let d = z.ended in
-      let texts = texts_of b form.include_hash d.halts.emitted in
+      let texts = texts_of b form d.halts.emitted in
       let fronts = action_texts (prefix_of d) in
       let both = prints_then sink v d.mid.output d.end.output fronts texts (Ok tt) (Err d.halts.rejection) (emitted_prints v d.mid.output (prefix_of d) ready (broke_emits d)) refl d.halts.prints in
       let all : (fronts ++ texts) ++ texts_in (after_broke d).events ≡ path_texts b form = append_assoc fronts texts (texts_in (after_broke d).events) ∙ prefix_shown d in

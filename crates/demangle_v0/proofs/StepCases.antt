@@ -163,7 +163,7 @@ module _ {V : Type 0} {e : Env V} where
 
   -- a nested production, after a pending text
   pub texts_child : {t : Machine V} {h : Trace} {words weight high : ℕ} (to : Continuation) (k : Kind) (v : Bool) {s : State} → h ≡ with_texts e.output.is_printed (pending_texts s.pending_text) (trace e.output e.symbol e.form (child k v done) s.depth_left s.lifetimes s.place)
-      → with_closed_bracket (of e.form.include_hash e.output.is_printed (unit_outcome (context_at e.symbol e.form.fold_arguments e.output.is_printed s.depth_left s.lifetimes) k v s.place)) ≡ trace_of_state e.symbol e.form e.output.is_printed to s
+      → with_closed_bracket (of e.form e.output.is_printed (unit_outcome (context_at e.symbol e.form e.output.is_printed s.depth_left s.lifetimes) k v s.place)) ≡ trace_of_state e.symbol e.form e.output.is_printed to s
       → weight_left to + 1 ≤ weight → height_at to s.depth_left ≤ high → Fits to s.depth_left s.lifetimes → Performs e t (part words h weight high) (Ok to) (record t { state = s })
   texts_child to k v {s} q r w x f = marks to (q ∙ ap (with_texts e.output.is_printed (pending_texts s.pending_text)) (child_last e.output e.symbol e.form k v s.depth_left s.lifetimes s.place ∙ r)) w x f
 
@@ -185,7 +185,7 @@ module _ {V : Type 0} {e : Env V} where
 
   -- A token is emitted.
   pub advanced_by : {t : Machine V} {h : Trace} {words weight high : ℕ} (to : Continuation) (prefix : List ℕ) → length prefix ≤ words → (x : Token) {s : State} {v : V} {n : ℕ}
-      → h ≡ with_looks prefix (with_texts e.output.is_printed (texts_of e.symbol e.form.include_hash x) (trace_of_state e.symbol e.form e.output.is_printed to s)) → e.output.prints t.output (texts_of e.symbol e.form.include_hash x) (Ok tt) v → s.pending_text ≡ None
+      → h ≡ with_looks prefix (with_texts e.output.is_printed (texts_of e.symbol e.form x) (trace_of_state e.symbol e.form e.output.is_printed to s)) → e.output.prints t.output (texts_of e.symbol e.form x) (Ok tt) v → s.pending_text ≡ None
       → n ≤ t.looks + total prefix → weight_left to + 1 ≤ weight + 100 * total prefix → height_at to s.depth_left ≤ high → Fits to s.depth_left s.lifetimes → Continued e (part words h weight high) t to (record t { state = s; output = v; looks = n })
   unfolding then_frame
   advanced_by to prefix c x r q k p w z f = record {
@@ -209,14 +209,14 @@ module _ {V : Type 0} {e : Env V} where
   }
 
   pub tells : {t : Machine V} {h : Trace} {words weight high : ℕ} (to : Continuation) (prefix : List ℕ) → length prefix ≤ words → (x : Token) {s : State} {v : V} {n : ℕ}
-      → h ≡ with_looks prefix (with_texts e.output.is_printed (texts_of e.symbol e.form.include_hash x) (trace_of_state e.symbol e.form e.output.is_printed to s)) → e.output.prints t.output (texts_of e.symbol e.form.include_hash x) (Ok tt) v → e.output.ready v → s.pending_text ≡ None
+      → h ≡ with_looks prefix (with_texts e.output.is_printed (texts_of e.symbol e.form x) (trace_of_state e.symbol e.form e.output.is_printed to s)) → e.output.prints t.output (texts_of e.symbol e.form x) (Ok tt) v → e.output.ready v → s.pending_text ≡ None
       → LooksWithin t.looks prefix n → n ≤ t.looks + step_looks_bound e.symbol t.state.place → weight_left to + 1 ≤ weight + 100 * total prefix → height_at to s.depth_left ≤ high → Fits to s.depth_left s.lifetimes
       → Performs e t (part words h weight high) (Ok to) (record t { state = s; output = v; looks = n })
   tells to prefix c x r q y k p short w z f = record { comes = advanced_by to prefix c x r q k p.within w z f; grows = p.grows; own_looks = short; ready = λ _ _. y; if_ok = λ _ _ _. y }
 
   -- The output rejects the token.
   pub halts : {t : Machine V} {h : Trace} {words weight high : ℕ} (prefix : List ℕ) → length prefix ≤ words → (x : Token) (rest : Trace) {s : State} {v : V} {n : ℕ} {r : SinkRefused}
-      → h ≡ with_looks prefix (with_texts e.output.is_printed (texts_of e.symbol e.form.include_hash x) rest) → e.output.prints t.output (texts_of e.symbol e.form.include_hash x) (Err r) v
+      → h ≡ with_looks prefix (with_texts e.output.is_printed (texts_of e.symbol e.form x) rest) → e.output.prints t.output (texts_of e.symbol e.form x) (Err r) v
       → (e.output.is_printed ≡ false → rest.place ≡ None) → LooksWithin t.looks prefix n → n ≤ t.looks + step_looks_bound e.symbol t.state.place
       → Performs e t (part words h weight high) (Err Sink) (record t { state = s; output = v; looks = n })
   halts {t} prefix c x rest {r = f} r q i p short = record {
@@ -251,13 +251,13 @@ token_part e words x p s weight high = part words (trace e.output e.symbol e.for
 -- Primitives that are read by a token spec.
 module _ {V : Type 0} {e : Env V} where
   pub group_tells : {t : Machine V} {h : Trace} {words weight high : ℕ} {s : State} {v : V} {n : ℕ} (to : Continuation) (g : TokenSpec) → length g.costs ≤ words → (k : Place → Trace) (y : Token) (j : Place) → h ≡ group_then e.output e.symbol e.form g k → reads.Parsed y j ≡ g.reads → LooksWithin t.looks g.costs n
-      → n ≤ t.looks + step_looks_bound e.symbol t.state.place → e.output.prints t.output (texts_of e.symbol e.form.include_hash y) (Ok tt) v → e.output.ready v → s.pending_text ≡ None → k j ≡ trace_of_state e.symbol e.form e.output.is_printed to s
+      → n ≤ t.looks + step_looks_bound e.symbol t.state.place → e.output.prints t.output (texts_of e.symbol e.form y) (Ok tt) v → e.output.ready v → s.pending_text ≡ None → k j ≡ trace_of_state e.symbol e.form e.output.is_printed to s
       → weight_left to + 1 ≤ weight → height_at to s.depth_left ≤ high → Fits to s.depth_left s.lifetimes → Performs e t (part words h weight high) (Ok to) (record t { state = s; output = v; looks = n })
   group_tells to g c k y j so r p short q x m o w z f =
-      tells to g.costs c y (group_so e.output e.symbol e.form _ g k (reads.Parsed y j) so r ∙ ap (λ (z : Trace). with_looks g.costs (with_texts e.output.is_printed (texts_of e.symbol e.form.include_hash y) z)) o) q x m p short (omega (arith, w)) z f
+      tells to g.costs c y (group_so e.output e.symbol e.form _ g k (reads.Parsed y j) so r ∙ ap (λ (z : Trace). with_looks g.costs (with_texts e.output.is_printed (texts_of e.symbol e.form y) z)) o) q x m p short (omega (arith, w)) z f
 
   pub group_stops : {t : Machine V} {h : Trace} {words weight high : ℕ} {s : State} {v : V} {n : ℕ} {f : SinkRefused} (g : TokenSpec) → length g.costs ≤ words → (k : Place → Trace) (y : Token) (j : Place) → h ≡ group_then e.output e.symbol e.form g k → reads.Parsed y j ≡ g.reads → LooksWithin t.looks g.costs n
-      → n ≤ t.looks + step_looks_bound e.symbol t.state.place → e.output.prints t.output (texts_of e.symbol e.form.include_hash y) (Err f) v → (e.output.is_printed ≡ false → IsOk (refused f)) → Performs e t (part words h weight high) (Err Sink) (record t { state = s; output = v; looks = n })
+      → n ≤ t.looks + step_looks_bound e.symbol t.state.place → e.output.prints t.output (texts_of e.symbol e.form y) (Err f) v → (e.output.is_printed ≡ false → IsOk (refused f)) → Performs e t (part words h weight high) (Err Sink) (record t { state = s; output = v; looks = n })
   group_stops g c k y j so r p short q x = halts g.costs c y (k j) (group_so e.output e.symbol e.form _ g k (reads.Parsed y j) so r) q (λ z. absurd (false≢true (x z))) p short
 
   pub group_faults : {t : Machine V} {h : Trace} {words weight high : ℕ} {n : ℕ} (g : TokenSpec) → length g.costs ≤ words → (k : Place → Trace) (m : FixedText) → h ≡ group_then e.output e.symbol e.form g k → reads.NotParsed m ≡ g.reads → LooksWithin t.looks g.costs n
@@ -266,14 +266,14 @@ module _ {V : Type 0} {e : Env V} where
 
   -- Primitives after which the production continues.
 
-  pub token_continues : {t : Machine V} {words weight high : ℕ} {s : State} {v : V} {n : ℕ} → 4 ≤ words → (to : Continuation) (x : TokenKind) (p : Items) (y : Token) (j : Place) → reads.Parsed y j ≡ (word_of e x t.state).reads → LooksWithin t.looks (word_of e x t.state).costs n → e.output.prints t.output (texts_of e.symbol e.form.include_hash y) (Ok tt) v → e.output.ready v → s.pending_text ≡ None
+  pub token_continues : {t : Machine V} {words weight high : ℕ} {s : State} {v : V} {n : ℕ} → 4 ≤ words → (to : Continuation) (x : TokenKind) (p : Items) (y : Token) (j : Place) → reads.Parsed y j ≡ (word_of e x t.state).reads → LooksWithin t.looks (word_of e x t.state).costs n → e.output.prints t.output (texts_of e.symbol e.form y) (Ok tt) v → e.output.ready v → s.pending_text ≡ None
       → trace e.output e.symbol e.form p t.state.depth_left t.state.lifetimes j ≡ trace_of_state e.symbol e.form e.output.is_printed to s → weight_left to + 1 ≤ weight → height_at to s.depth_left ≤ high → Fits to s.depth_left s.lifetimes
       → Performs e t (token_part e words x p t.state weight high) (Ok to) (record t { state = s; output = v; looks = n })
   token_continues {t} primitive_count to x p y j r q k z m o w l f =
       group_tells to (word_of e x t.state) (omega (arith, primitive_count, group_few e.symbol x t.state.letter e.output.is_printed t.state.lifetimes t.state.place)) (trace e.output e.symbol e.form p t.state.depth_left t.state.lifetimes) y j (token_so e.output e.symbol e.form x t.state.letter p t.state.depth_left t.state.lifetimes t.state.place) r q
       (omega (arith, q.within, group_short e.symbol x t.state.letter e.output.is_printed t.state.lifetimes t.state.place)) k z m o w l f
 
-  pub token_refuses : {t : Machine V} {words weight high : ℕ} {s : State} {v : V} {n : ℕ} {f : SinkRefused} → 4 ≤ words → (x : TokenKind) (p : Items) (y : Token) (j : Place) → reads.Parsed y j ≡ (word_of e x t.state).reads → LooksWithin t.looks (word_of e x t.state).costs n → e.output.prints t.output (texts_of e.symbol e.form.include_hash y) (Err f) v → (e.output.is_printed ≡ false → IsOk (refused f))
+  pub token_refuses : {t : Machine V} {words weight high : ℕ} {s : State} {v : V} {n : ℕ} {f : SinkRefused} → 4 ≤ words → (x : TokenKind) (p : Items) (y : Token) (j : Place) → reads.Parsed y j ≡ (word_of e x t.state).reads → LooksWithin t.looks (word_of e x t.state).costs n → e.output.prints t.output (texts_of e.symbol e.form y) (Err f) v → (e.output.is_printed ≡ false → IsOk (refused f))
       → Performs e t (token_part e words x p t.state weight high) (Err Sink) (record t { state = s; output = v; looks = n })
   token_refuses {t} primitive_count x p y j r q k z =
       group_stops (word_of e x t.state) (omega (arith, primitive_count, group_few e.symbol x t.state.letter e.output.is_printed t.state.lifetimes t.state.place)) (trace e.output e.symbol e.form p t.state.depth_left t.state.lifetimes) y j (token_so e.output e.symbol e.form x t.state.letter p t.state.depth_left t.state.lifetimes t.state.place) r q
@@ -286,12 +286,12 @@ module _ {V : Type 0} {e : Env V} where
 
   -- Primitives with which a production ends.
 
-  pub token_ends : {t : Machine V} {v : V} {n : ℕ} (x : TokenKind) (y : Token) (j : Place) → reads.Parsed y j ≡ (word_of e x t.state).reads → LooksWithin t.looks (word_of e x t.state).costs n → e.output.prints t.output (texts_of e.symbol e.form.include_hash y) (Ok tt) v → e.output.ready v → t.state.pending_text ≡ None
+  pub token_ends : {t : Machine V} {v : V} {n : ℕ} (x : TokenKind) (y : Token) (j : Place) → reads.Parsed y j ≡ (word_of e x t.state).reads → LooksWithin t.looks (word_of e x t.state).costs n → e.output.prints t.output (texts_of e.symbol e.form y) (Ok tt) v → e.output.ready v → t.state.pending_text ≡ None
       → PerformsRest e (token_items x t.state.letter done) 4 1 0 t (Ok continuation.End) (record t { state = record t.state { place = j; is_bracket_open = false }; output = v; looks = n })
   unfolding parse trace_at
   token_ends x y j r p q k m = token_continues (omega arith) continuation.End x done y j r p q k m refl (omega arith) (omega arith) tt
 
-  pub token_stops : {t : Machine V} {s : State} {v : V} {n : ℕ} {f : SinkRefused} (x : TokenKind) (y : Token) (j : Place) → reads.Parsed y j ≡ (word_of e x t.state).reads → LooksWithin t.looks (word_of e x t.state).costs n → e.output.prints t.output (texts_of e.symbol e.form.include_hash y) (Err f) v → (e.output.is_printed ≡ false → IsOk (refused f))
+  pub token_stops : {t : Machine V} {s : State} {v : V} {n : ℕ} {f : SinkRefused} (x : TokenKind) (y : Token) (j : Place) → reads.Parsed y j ≡ (word_of e x t.state).reads → LooksWithin t.looks (word_of e x t.state).costs n → e.output.prints t.output (texts_of e.symbol e.form y) (Err f) v → (e.output.is_printed ≡ false → IsOk (refused f))
       → PerformsRest e (token_items x t.state.letter done) 4 1 0 t (Err Sink) (record t { state = s; output = v; looks = n })
   token_stops x = token_refuses (omega arith) x done
 
@@ -299,7 +299,7 @@ module _ {V : Type 0} {e : Env V} where
   token_faults x m r p k = word_stops (omega arith) x done m r p k (omega arith)
 
   -- a primitive that emits nothing
-  pub token_bare : {t u : Machine V} {r : Result Continuation StepError} {words words' weight high weight' high' : ℕ} {s : State} {n : ℕ} → 4 + words' ≤ words → (x : TokenKind) (p : Items) (y : Token) (j : Place) → reads.Parsed y j ≡ (word_of e x t.state).reads → texts_of e.symbol e.form.include_hash y ≡ [] → LooksWithin t.looks (word_of e x t.state).costs n
+  pub token_bare : {t u : Machine V} {r : Result Continuation StepError} {words words' weight high weight' high' : ℕ} {s : State} {n : ℕ} → 4 + words' ≤ words → (x : TokenKind) (p : Items) (y : Token) (j : Place) → reads.Parsed y j ≡ (word_of e x t.state).reads → texts_of e.symbol e.form y ≡ [] → LooksWithin t.looks (word_of e x t.state).costs n
       → u.looks ≤ t.looks + step_looks_bound e.symbol t.state.place → weight' ≤ weight → high' ≤ high → Performs e (record t { state = s; looks = n }) (part words' (trace e.output e.symbol e.form p t.state.depth_left t.state.lifetimes j) weight' high') r u → Performs e t (token_part e words x p t.state weight high) r u
   token_bare {t} primitive_count x p y j r o q short w z d =
       let g = word_of e x t.state in

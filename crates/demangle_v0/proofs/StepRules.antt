@@ -56,12 +56,12 @@ refused e = Err e
 module _ {V : Type 0} (output : Ghosts V) (b : List ℕ) (form : Form) where
   -- the trace of the rest of a production
   abbrev pub trace : Items → ℕ → ℕ → Place → Trace
-  trace p left n i = with_closed_bracket (of form.include_hash output.is_printed (parse p (context_at b form.fold_arguments output.is_printed left n) i))
+  trace p left n i = with_closed_bracket (of form output.is_printed (parse p (context_at b form output.is_printed left n) i))
 
   -- a nested production that is the last item
-  pub child_last : (k : Kind) (v : Bool) (left n : ℕ) (i : Place) → trace (child k v done) left n i ≡ with_closed_bracket (of form.include_hash output.is_printed (unit_outcome (context_at b form.fold_arguments output.is_printed left n) k v i))
+  pub child_last : (k : Kind) (v : Bool) (left n : ℕ) (i : Place) → trace (child k v done) left n i ≡ with_closed_bracket (of form output.is_printed (unit_outcome (context_at b form output.is_printed left n) k v i))
   unfolding parse
-  child_last k v left n i = let o = unit_outcome (context_at b form.fold_arguments output.is_printed left n) k v i in ap (λ xs. record { events = xs; place = o.place; is_bracket_open = false }) (append-nil (events form.include_hash output.is_printed o.tree))
+  child_last k v left n i = let o = unit_outcome (context_at b form output.is_printed left n) k v i in ap (λ xs. record { events = xs; place = o.place; is_bracket_open = false }) (append-nil (events form.include_hash output.is_printed o.tree))
 
   -- The parts that a token spec reads, and the items after them.
 
@@ -71,14 +71,14 @@ module _ {V : Type 0} (output : Ghosts V) (b : List ℕ) (form : Form) where
 
   -- a token spec, and the trace after it
   abbrev pub group_then : TokenSpec → (Place → Trace) → Trace
-  group_then g k = grouped b form.include_hash output.is_printed g k
+  group_then g k = grouped b form output.is_printed g k
 
   -- a token spec with which the production ends
   abbrev pub group_trace : TokenSpec → Trace
   group_trace g = group_then g ended
 
   -- the bracket is closed after a primitive if it is closed after the rest
-  token_shut : (ks : List ℕ) (r : TokenOutcome) (k : Place → Trace) → with_closed_bracket (with_looks ks (token_then b form.include_hash output.is_printed r k)) ≡ with_looks ks (token_then b form.include_hash output.is_printed r (λ j. with_closed_bracket (k j)))
+  token_shut : (ks : List ℕ) (r : TokenOutcome) (k : Place → Trace) → with_closed_bracket (with_looks ks (token_then b form output.is_printed r k)) ≡ with_looks ks (token_then b form output.is_printed r (λ j. with_closed_bracket (k j)))
   token_shut ks (reads.Parsed x j) k = refl
   token_shut ks (reads.NotParsed m) k = refl
 
@@ -88,8 +88,8 @@ module _ {V : Type 0} (output : Ghosts V) (b : List ℕ) (form : Form) where
 
   -- a primitive is read by its token spec
   pub token_so : (x : TokenKind) (c : ℕ) (p : Items) (left n : ℕ) (i : Place) → trace (token_items x c p) left n i ≡ group_then (token_spec b x c output.is_printed n i) (trace p left n)
-  token_so x c p left n i = group_shut _ (token_spec b x c output.is_printed n i) (λ j. of form.include_hash output.is_printed (parse p (context_at b form.fold_arguments output.is_printed left n) j)) (word_read b form.include_hash form.fold_arguments left output.is_printed n x c p i)
+  token_so x c p left n i = group_shut _ (token_spec b x c output.is_printed n i) (λ j. of form output.is_printed (parse p (context_at b form output.is_printed left n) j)) (word_read b form left output.is_printed n x c p i)
 
   -- the trace of a token spec that was read
-  pub group_so : (h : Trace) (g : TokenSpec) (k : Place → Trace) (r : TokenOutcome) → h ≡ group_then g k → r ≡ g.reads → h ≡ with_looks g.costs (token_then b form.include_hash output.is_printed r k)
-  group_so h g k r so e = so ∙ ap (λ (z : TokenOutcome). with_looks g.costs (token_then b form.include_hash output.is_printed z k)) (sym e)
+  pub group_so : (h : Trace) (g : TokenSpec) (k : Place → Trace) (r : TokenOutcome) → h ≡ group_then g k → r ≡ g.reads → h ≡ with_looks g.costs (token_then b form output.is_printed r k)
+  group_so h g k r so e = so ∙ ap (λ (z : TokenOutcome). with_looks g.costs (token_then b form output.is_printed z k)) (sym e)

@@ -150,5 +150,5 @@ module _ {V : Type 0} {e : Env V} where
       }
 
 -- Steps of a parser that was at another step before, with the same source.
-pub steps_as : {N : ℕ} {V : Type 0} (output : Ghosts V) (m k : Parser N) {p : Continuation} {t u : Machine V} {r : Result Continuation SinkRefused} → Same m k → StepsDone (env_of output k) p t r u → StepsDone (env_of output m) p t r u
-steps_as output m k (e, h, f) d = rw (← e, ← h, ← f) d
+pub steps_as : {V : Type 0} (output : Ghosts V) (m k : Parser) {p : Continuation} {t u : Machine V} {r : Result Continuation SinkRefused} → Same m k → StepsDone (env_of output k) p t r u → StepsDone (env_of output m) p t r u
+steps_as output m k (e, h, n) d = rw (← e, ← h) d

@@ -77,7 +77,7 @@ module _ {V : Type 0} {e : Env V} where
           (record { grows = omega arith; within = omega arith }) (omega arith) (omega arith) (omega (arith, w)) (omega arith) (omega (arith, l, h a.depth_left)) tt f (λ _. tt))
       go false j =
           rw r.0 (text_step p [] [] (omega arith) (Some (frame_of continuation.CloseBrace false a.letter a.depth_left a.lifetimes))
-          (rw j (outer ∙ (ap (λ (h : Trace). with_texts e.output.is_printed (pending_texts (g false)) (with_closed_bracket h)) (extended_reads e.form.include_hash e.output.is_printed (print_str "}" done) (context_at e.symbol e.form.fold_arguments e.output.is_printed a.depth_left a.lifetimes) q y a.place)
+          (rw j (outer ∙ (ap (λ (h : Trace). with_texts e.output.is_printed (pending_texts (g false)) (with_closed_bracket h)) (extended_reads e.form e.output.is_printed (print_str "}" done) (context_at e.symbol e.form e.output.is_printed a.depth_left a.lifetimes) q y a.place)
           ∙ ap (λ (h : Trace). with_texts e.output.is_printed (pending_texts (g false)) (and_then h (λ j o. trace_at e.symbol e.form e.output.is_printed continuation.CloseBrace false a.letter a.depth_left a.lifetimes j o))) (sym (i false a.letter a.depth_left a.lifetimes a.place a.is_bracket_open)))))
           (rw j at r.1) (record { grows = omega arith; within = omega arith }) (omega arith) (omega arith) (omega (arith, w)) (omega (arith, l)) (omega (arith, l, h a.depth_left)) k f (λ _. refl))
 
@@ -114,7 +114,7 @@ module _ {V : Type 0} {e : Env V} where
   shared_continues {t} i at c l f r =
       let a = t.state in
       after_few {words' = 0} {s = a} (1 ∷ []) (omega arith)
-      (rw at (ap with_closed_bracket (reference_reads e.form.include_hash e.form.fold_arguments e.output.is_printed e.symbol a.depth_left a.lifetimes a.in_value i (sym c))))
+      (rw at (ap with_closed_bracket (reference_reads e.form e.output.is_printed e.symbol a.depth_left a.lifetimes a.in_value i (sym c))))
       (record { grows = omega (arith, l); within = omega (arith, l) }) (rw at (omega (arith, l))) (omega arith) (omega arith) (referred_braced f r)
 
   pub shared_text : {t u : Machine V} {r : Result Continuation StepError} {n : ℕ} (i : ℕ) → t.state.place ≡ Some i → true ≡ is_byte e.symbol i (code "e") → n ≡ t.looks + 1 → u.looks ≤ t.looks + step_looks_bound e.symbol t.state.place
@@ -122,7 +122,7 @@ module _ {V : Type 0} {e : Env V} where
   unfolding trace_at
   shared_text {t} i at c l short d =
       let a = t.state in
-      after_few (1 ∷ []) (omega arith) (rw at (ap with_closed_bracket (text_reads e.form.include_hash e.form.fold_arguments e.output.is_printed e.symbol a.depth_left a.lifetimes a.in_value i (sym c)))) (record { grows = omega (arith, l); within = omega (arith, l) }) short (omega arith) (omega arith) d
+      after_few (1 ∷ []) (omega arith) (rw at (ap with_closed_bracket (text_reads e.form e.output.is_printed e.symbol a.depth_left a.lifetimes a.in_value i (sym c)))) (record { grows = omega (arith, l); within = omega (arith, l) }) short (omega arith) (omega arith) d
 
   -- Numbers.
 
@@ -136,7 +136,7 @@ module _ {V : Type 0} {e : Env V} where
   unfolding then_frame trace_at
   signed_minus {t} c i at o l f =
       let a = t.state in
-      text_step continuation.Number (1 ∷ []) [] (omega arith) None (rw at (ap with_closed_bracket (minus_reads e.form.include_hash e.form.fold_arguments e.output.is_printed e.symbol a.depth_left a.lifetimes c i (sym o)))) refl
+      text_step continuation.Number (1 ∷ []) [] (omega arith) None (rw at (ap with_closed_bracket (minus_reads e.form e.output.is_printed e.symbol a.depth_left a.lifetimes c i (sym o)))) refl
       (record { grows = omega (arith, l); within = omega (arith, l) }) (omega arith) (rw at (omega (arith, l))) (omega arith) (omega arith) (omega arith) tt f (λ _. tt)
 
   pub signed_plus : {t u : Machine V} {r : Result Continuation StepError} {n : ℕ} (c i : ℕ) → t.state.place ≡ Some i → false ≡ is_byte e.symbol i (code "n") → n ≡ t.looks + 1 → u.looks ≤ t.looks + step_looks_bound e.symbol t.state.place
@@ -144,7 +144,7 @@ module _ {V : Type 0} {e : Env V} where
   unfolding trace_at
   signed_plus {t} c i at o l short d =
       let a = t.state in
-      after_few (1 ∷ []) (omega arith) (rw at (ap with_closed_bracket (plus_reads e.form.include_hash e.form.fold_arguments e.output.is_printed e.symbol a.depth_left a.lifetimes c i (sym o)))) (record { grows = omega (arith, l); within = omega (arith, l) }) short (omega arith) (omega arith) (rw at at d)
+      after_few (1 ∷ []) (omega arith) (rw at (ap with_closed_bracket (plus_reads e.form e.output.is_printed e.symbol a.depth_left a.lifetimes c i (sym o)))) (record { grows = omega (arith, l); within = omega (arith, l) }) short (omega arith) (omega arith) (rw at at d)
 
   -- A variant's path.
 
@@ -163,17 +163,17 @@ module _ {V : Type 0} {e : Env V} where
   unfolding trace_at
   constant_untagged {t} i at o l k =
       let a = t.state in
-      ends fixed.Invalid (4 * (length e.symbol - i + 1) ∷ []) (omega arith) k (rw at (ap with_closed_bracket (constant_missing e.form.include_hash e.form.fold_arguments e.output.is_printed e.symbol a.depth_left a.lifetimes a.in_value i (sym o)))) (record { grows = omega (arith, l); within = omega (arith, l) }) (rw at (omega (arith, l))) (omega arith)
+      ends fixed.Invalid (4 * (length e.symbol - i + 1) ∷ []) (omega arith) k (rw at (ap with_closed_bracket (constant_missing e.form e.output.is_printed e.symbol a.depth_left a.lifetimes a.in_value i (sym o)))) (record { grows = omega (arith, l); within = omega (arith, l) }) (rw at (omega (arith, l))) (omega arith)
 
   pub constant_too_deep : {t : Machine V} {n : ℕ} (i c j : ℕ) → t.state.place ≡ Some i → t.state.depth_left ≡ 0 → Some (c, j) ≡ byte_at e.symbol i → n ≡ t.looks + 1 → t.state.pending_text ≡ None → PerformsAt e continuation.Constant t (Err (Abort fixed.Recursion)) (record t { looks = n })
   unfolding trace_at
   constant_too_deep {t} i c j at z o l k =
       let a = t.state in
-      ends fixed.Recursion (4 * (j - i + 1) ∷ []) (omega arith) k (rw at (ap with_closed_bracket (constant_deep e.form.include_hash e.form.fold_arguments e.output.is_printed e.symbol a.depth_left a.lifetimes a.in_value i c j (sym o) z))) (record { grows = omega (arith, l); within = omega (arith, l) }) (rw at (omega (arith, l))) (omega arith)
+      ends fixed.Recursion (4 * (j - i + 1) ∷ []) (omega arith) k (rw at (ap with_closed_bracket (constant_deep e.form e.output.is_printed e.symbol a.depth_left a.lifetimes a.in_value i c j (sym o) z))) (record { grows = omega (arith, l); within = omega (arith, l) }) (rw at (omega (arith, l))) (omega arith)
 
   pub constant_tagged : {t u : Machine V} {r : Result Continuation StepError} {n : ℕ} (i c j : ℕ) → t.state.place ≡ Some i → 0 < t.state.depth_left → Some (c, j) ≡ byte_at e.symbol i → n ≡ t.looks + 1 → u.looks ≤ t.looks + step_looks_bound e.symbol t.state.place
       → PerformsRest e (constant t.state.in_value c) 6 6 9 (record t { state = record t.state { depth_left = t.state.depth_left - 1; place = Some j }; looks = n }) r u → PerformsAt e continuation.Constant t r u
   unfolding trace_at
   constant_tagged {t} i c j at z o l short d =
       let a = t.state in
-      after_few (4 * (j - i + 1) ∷ []) (omega arith) (rw at (ap with_closed_bracket (constant_reads e.form.include_hash e.form.fold_arguments e.output.is_printed e.symbol a.depth_left a.lifetimes a.in_value i c j (sym o) z))) (record { grows = omega (arith, l); within = omega (arith, l) }) short (omega arith) (omega (arith, z)) d
+      after_few (4 * (j - i + 1) ∷ []) (omega arith) (rw at (ap with_closed_bracket (constant_reads e.form e.output.is_printed e.symbol a.depth_left a.lifetimes a.in_value i c j (sym o) z))) (record { grows = omega (arith, l); within = omega (arith, l) }) short (omega arith) (omega (arith, z)) d

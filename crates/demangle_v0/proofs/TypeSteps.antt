@@ -75,10 +75,10 @@ shared_kind x e = rw e refl
 
 module _ {V : Type 0} (output : Ghosts V) (b : List ℕ) (form : Form) where
   -- a nested production whose following text is not printed
-  pub child_silent : (k : Kind) (v : Bool) (left n : ℕ) (i : Place) (t : Text) (out : Bool) → out ≡ false → with_closed_bracket (of form.include_hash out (parse (child k v (print t done)) (context_at b form.fold_arguments out left n) i)) ≡ with_closed_bracket (of form.include_hash out (unit_outcome (context_at b form.fold_arguments out left n) k v i))
+  pub child_silent : (k : Kind) (v : Bool) (left n : ℕ) (i : Place) (t : Text) (out : Bool) → out ≡ false → with_closed_bracket (of form out (parse (child k v (print t done)) (context_at b form out left n) i)) ≡ with_closed_bracket (of form out (unit_outcome (context_at b form out left n) k v i))
   unfolding parse
   child_silent k v left n i t true q = absurd (false≢true (sym q))
-  child_silent k v left n i t false q = let o = unit_outcome (context_at b form.fold_arguments false left n) k v i in ap (λ xs. record { events = xs; place = o.place; is_bracket_open = false }) (append-nil (events form.include_hash false o.tree))
+  child_silent k v left n i t false q = let o = unit_outcome (context_at b form false left n) k v i in ap (λ xs. record { events = xs; place = o.place; is_bracket_open = false }) (append-nil (events form.include_hash false o.tree))
 
   kinds_so : (tag : ℕ) → type_rows tag ≡ rows_of type_of (type_kinds tag)
   kinds_so tag = go (tag == code "Q") refl
@@ -150,7 +150,7 @@ module _ {V : Type 0} {e : Env V} where
   -- a nested production in brackets; the frame for the closing bracket is pushed only if the output prints
   pub encloses : {t : Machine V} {h : Trace} {words weight high : ℕ} {stack : List Frame} (to : Continuation) (k : Kind) (v value : Bool) (m : FixedText) → let s = record t.state { in_value = value; pending_text = Some m } in
       h ≡ trace e.output e.symbol e.form (print (text m) (child k v (print_str "]" done))) s.depth_left s.lifetimes s.place
-      → with_closed_bracket (of e.form.include_hash e.output.is_printed (unit_outcome (context_at e.symbol e.form.fold_arguments e.output.is_printed s.depth_left s.lifetimes) k v s.place)) ≡ trace_of_state e.symbol e.form e.output.is_printed to s
+      → with_closed_bracket (of e.form e.output.is_printed (unit_outcome (context_at e.symbol e.form e.output.is_printed s.depth_left s.lifetimes) k v s.place)) ≡ trace_of_state e.symbol e.form e.output.is_printed to s
       → weight_left to + 3 ≤ weight → 8 * s.depth_left + 2 ≤ high → height_at to s.depth_left + 1 ≤ high → Fits continuation.CloseBracket s.depth_left s.lifetimes → Fits to s.depth_left s.lifetimes
       → (e.output.is_printed ≡ true → stack ≡ t.stack ++ frame_at continuation.CloseBracket t.state ∷ []) → (e.output.is_printed ≡ false → stack ≡ t.stack) → Performs e t (part words h weight high) (Ok to) (record t { state = s; stack = stack })
   unfolding parse trace_at
@@ -168,19 +168,19 @@ module _ {V : Type 0} {e : Env V} where
   pub no_tag : {t : Machine V} {n : ℕ} (i : ℕ) → t.state.place ≡ Some i → None ≡ slice_get e.symbol i → n ≡ t.looks + 1 → t.state.pending_text ≡ None → PerformsAt e continuation.TaggedType t (Err (Abort fixed.Invalid)) (record t { looks = n })
   unfolding trace_at
   no_tag {t} i at o l k =
-      ends fixed.Invalid (1 ∷ []) (omega arith) k (rw at (ap with_closed_bracket (tag_missing e.form.include_hash e.form.fold_arguments e.output.is_printed e.symbol t.state.depth_left t.state.lifetimes i (sym o)))) (record { grows = omega (arith, l); within = omega (arith, l) }) (rw at (omega (arith, l))) (omega arith)
+      ends fixed.Invalid (1 ∷ []) (omega arith) k (rw at (ap with_closed_bracket (tag_missing e.form e.output.is_printed e.symbol t.state.depth_left t.state.lifetimes i (sym o)))) (record { grows = omega (arith, l); within = omega (arith, l) }) (rw at (omega (arith, l))) (omega arith)
 
   pub basic_ends : {t : Machine V} {n : ℕ} (i x : ℕ) (m : FixedText) → t.state.place ≡ Some i → Some x ≡ slice_get e.symbol i → Some m ≡ found x basic_type_texts → n ≡ t.looks + 1
       → PerformsAt e continuation.TaggedType t (Ok continuation.End) (record t { state = record t.state { place = Some (i + 1); pending_text = Some m; is_bracket_open = false }; looks = n })
   unfolding trace_at
   basic_ends {t} i x m at o f l =
-      moves continuation.End (1 ∷ 4 * (i + 1 - i + 1) ∷ []) (omega arith) (rw at (ap with_closed_bracket (basic_reads e.form.include_hash e.form.fold_arguments e.output.is_printed e.symbol t.state.depth_left t.state.lifetimes i x (text m) (sym o) (basic_so e.output e.symbol e.form x (Some m) f))))
+      moves continuation.End (1 ∷ 4 * (i + 1 - i + 1) ∷ []) (omega arith) (rw at (ap with_closed_bracket (basic_reads e.form e.output.is_printed e.symbol t.state.depth_left t.state.lifetimes i x (text m) (sym o) (basic_so e.output e.symbol e.form x (Some m) f))))
       (record { grows = omega (arith, l); within = omega (arith, l) }) (rw at (omega (arith, l))) (omega arith) (omega arith) tt
 
   pub tag_deep : {t : Machine V} {n : ℕ} (i x : ℕ) → t.state.place ≡ Some i → Some x ≡ slice_get e.symbol i → None ≡ found x basic_type_texts → t.state.depth_left ≡ 0 → n ≡ t.looks + 1 → t.state.pending_text ≡ None → PerformsAt e continuation.TaggedType t (Err (Abort fixed.Recursion)) (record t { looks = n })
   unfolding trace_at
   tag_deep {t} i x at o f z l k =
-      ends fixed.Recursion (1 ∷ []) (omega arith) k (rw at (ap with_closed_bracket (type_deep e.form.include_hash e.form.fold_arguments e.output.is_printed e.symbol t.state.depth_left t.state.lifetimes i x (sym o) (basic_so e.output e.symbol e.form x None f) z)))
+      ends fixed.Recursion (1 ∷ []) (omega arith) k (rw at (ap with_closed_bracket (type_deep e.form e.output.is_printed e.symbol t.state.depth_left t.state.lifetimes i x (sym o) (basic_so e.output e.symbol e.form x None f) z)))
       (record { grows = omega (arith, l); within = omega (arith, l) }) (rw at (omega (arith, l))) (omega arith)
 
   -- any other tag is that of a path
@@ -190,7 +190,7 @@ module _ {V : Type 0} {e : Env V} where
   path_follows {t} i x at o f z g l k w =
       let s = t.state in
       moves continuation.Path (1 ∷ []) (omega arith)
-      (rw (at, k) (ap with_closed_bracket (constructed_reads e.form.include_hash e.form.fold_arguments e.output.is_printed e.symbol s.depth_left s.lifetimes i x (sym o) (basic_so e.output e.symbol e.form x None f) z ∙ ap (with_looks (1 ∷ [])) (path_type_reads e.form.include_hash e.form.fold_arguments e.output.is_printed e.symbol (s.depth_left - 1) s.lifetimes (Some i) x (row_so e.output e.symbol e.form x None g)))))
+      (rw (at, k) (ap with_closed_bracket (constructed_reads e.form e.output.is_printed e.symbol s.depth_left s.lifetimes i x (sym o) (basic_so e.output e.symbol e.form x None f) z ∙ ap (with_looks (1 ∷ [])) (path_type_reads e.form e.output.is_printed e.symbol (s.depth_left - 1) s.lifetimes (Some i) x (row_so e.output e.symbol e.form x None g)))))
       (record { grows = omega (arith, l); within = omega (arith, l) }) (rw at (omega (arith, l))) (omega arith) (omega (arith, z)) (omega (arith, w))
 
   pub tag_continues : {t u : Machine V} {r : Result Continuation StepError} {n : ℕ} (i x : ℕ) (k : TypeKind) → t.state.place ≡ Some i → Some x ≡ slice_get e.symbol i → None ≡ found x basic_type_texts → 0 < t.state.depth_left → Some k ≡ found x (type_kinds x) → n ≡ t.looks + 1 → u.looks ≤ t.looks + step_looks_bound e.symbol t.state.place
@@ -199,7 +199,7 @@ module _ {V : Type 0} {e : Env V} where
   tag_continues {t} i x k at o m z g l short d =
       let s = t.state in
       after_few (1 ∷ 4 * (i + 1 - i + 1) ∷ []) (omega arith)
-      (rw at (ap with_closed_bracket (constructed_reads e.form.include_hash e.form.fold_arguments e.output.is_printed e.symbol s.depth_left s.lifetimes i x (sym o) (basic_so e.output e.symbol e.form x None m) z ∙ ap (with_looks (1 ∷ [])) (row_reads e.form.include_hash e.form.fold_arguments e.output.is_printed e.symbol (s.depth_left - 1) s.lifetimes i x (type_of k) (sym o) (row_so e.output e.symbol e.form x (Some k) g)))))
+      (rw at (ap with_closed_bracket (constructed_reads e.form e.output.is_printed e.symbol s.depth_left s.lifetimes i x (sym o) (basic_so e.output e.symbol e.form x None m) z ∙ ap (with_looks (1 ∷ [])) (row_reads e.form e.output.is_printed e.symbol (s.depth_left - 1) s.lifetimes i x (type_of k) (sym o) (row_so e.output e.symbol e.form x (Some k) g)))))
       (record { grows = omega (arith, l); within = omega (arith, l) }) short (omega arith) (omega (arith, z)) d
 
   -- A type.
@@ -207,14 +207,14 @@ module _ {V : Type 0} {e : Env V} where
   pub type_splats : {t : Machine V} {n : ℕ} (i : ℕ) → t.state.place ≡ Some i → is_byte e.symbol i (code "w") ≡ true → LooksWithin t.looks (1 ∷ []) n → Fits continuation.TaggedType t.state.depth_left t.state.lifetimes
       → PerformsAt e continuation.«Type» t (Ok continuation.TaggedType) (record t { state = record t.state { place = Some (i + 1); pending_text = Some fixed.Splat }; looks = n })
   unfolding trace_at
-  type_splats {t} i at o p f = moves continuation.TaggedType (1 ∷ []) (omega arith) (rw at (ap with_closed_bracket (splat_reads e.form.include_hash e.form.fold_arguments e.output.is_printed e.symbol t.state.depth_left t.state.lifetimes false i o))) p (rw at (omega (arith, p.within))) (omega arith) (omega arith) f
+  type_splats {t} i at o p f = moves continuation.TaggedType (1 ∷ []) (omega arith) (rw at (ap with_closed_bracket (splat_reads e.form e.output.is_printed e.symbol t.state.depth_left t.state.lifetimes false i o))) p (rw at (omega (arith, p.within))) (omega arith) (omega arith) f
 
   pub type_continues : {t u : Machine V} {r : Result Continuation StepError} {n : ℕ} (i : ℕ) → t.state.place ≡ Some i → is_byte e.symbol i (code "w") ≡ false → t.looks ≤ n → n ≤ t.looks + 1 → u.looks ≤ t.looks + step_looks_bound e.symbol t.state.place
       → PerformsAt e continuation.TaggedType (machine t.state t.stack t.output n) r u → PerformsAt e continuation.«Type» t r u
   unfolding trace_at
   type_continues {t} i at o l m short d =
       let s = t.state in
-      after_few (1 ∷ []) (omega arith) (rw at (ap with_closed_bracket (type_reads e.form.include_hash e.form.fold_arguments e.output.is_printed e.symbol s.depth_left s.lifetimes false i o))) (record { grows = l; within = omega (arith, m) }) short (omega arith) (omega arith) (rw at at d)
+      after_few (1 ∷ []) (omega arith) (rw at (ap with_closed_bracket (type_reads e.form e.output.is_printed e.symbol s.depth_left s.lifetimes false i o))) (record { grows = l; within = omega (arith, m) }) short (omega arith) (omega arith) (rw at at d)
 
   -- a tag other than `w` is read in the same way at the start of a type and after a `w`
   pub type_tagged : {t u : Machine V} {r : Result Continuation StepError} (q : Bool) (i : ℕ) → t.state.place ≡ Some i → (q ≡ true → is_byte e.symbol i (code "w") ≡ false) → PerformsAt e continuation.TaggedType t r u → PerformsAt e (if q then continuation.«Type» else continuation.TaggedType) t r u

@@ -36,7 +36,7 @@ variant_so : {V : Type 0} (e : Env V) (s : State) (i c j : ℕ) (p : Option Vari
     → trace_at e.symbol e.form e.output.is_printed continuation.Variant s.in_value s.letter s.depth_left s.lifetimes (Some i) s.is_bracket_open ≡ with_looks (4 * (j - i + 1) ∷ []) (trace e.output e.symbol e.form (some_or invalid p (variant_of s.in_value)) s.depth_left s.lifetimes (Some j))
 unfolding trace_at
 variant_so e s i c j p o q =
-    ap with_closed_bracket (variant_reads e.form.include_hash e.form.fold_arguments e.output.is_printed e.symbol s.depth_left s.lifetimes (closes s.in_value) i c j (sym o))
+    ap with_closed_bracket (variant_reads e.form e.output.is_printed e.symbol s.depth_left s.lifetimes (closes s.in_value) i c j (sym o))
     ∙ ap (λ (x : Items). with_looks (4 * (j - i + 1) ∷ []) (trace e.output e.symbol e.form x s.depth_left s.lifetimes (Some j))) (row_found c invalid (variant_of s.in_value) variant_kinds ∙ ap (λ (p : Option VariantKind). some_or invalid p (variant_of s.in_value)) (sym q))
 
 -- the fields are read from this continuation on
@@ -46,13 +46,13 @@ DidHold {V = V} e k p m = (t : Machine V) (s : State) (stack : List Frame) → F
 module _ {V : Type 0} {e : Env V} where
   pub variant_unread : {t : Machine V} → t.state.place ≡ None → t.state.pending_text ≡ None → PerformsAt e continuation.Variant t (Err (Abort fixed.AfterError)) t
   unfolding trace_at
-  variant_unread {t} at k = let a = t.state in after_error k (rw at (ap with_closed_bracket (variant_failed e.form.include_hash e.form.fold_arguments e.output.is_printed e.symbol a.depth_left a.lifetimes (closes a.in_value)))) (omega arith)
+  variant_unread {t} at k = let a = t.state in after_error k (rw at (ap with_closed_bracket (variant_failed e.form e.output.is_printed e.symbol a.depth_left a.lifetimes (closes a.in_value)))) (omega arith)
 
   pub variant_untagged : {t : Machine V} {n : ℕ} (i : ℕ) → t.state.place ≡ Some i → None ≡ byte_at e.symbol i → n ≡ t.looks + 1 → t.state.pending_text ≡ None → PerformsAt e continuation.Variant t (Err (Abort fixed.Invalid)) (record t { looks = n })
   unfolding trace_at
   variant_untagged {t} i at o l k =
       let a = t.state in
-      ends fixed.Invalid (4 * (length e.symbol - i + 1) ∷ []) (omega arith) k (rw at (ap with_closed_bracket (variant_missing e.form.include_hash e.form.fold_arguments e.output.is_printed e.symbol a.depth_left a.lifetimes (closes a.in_value) i (sym o)))) (record { grows = omega (arith, l); within = omega (arith, l) }) (rw at (omega (arith, l))) (omega arith)
+      ends fixed.Invalid (4 * (length e.symbol - i + 1) ∷ []) (omega arith) k (rw at (ap with_closed_bracket (variant_missing e.form e.output.is_printed e.symbol a.depth_left a.lifetimes (closes a.in_value) i (sym o)))) (record { grows = omega (arith, l); within = omega (arith, l) }) (rw at (omega (arith, l))) (omega arith)
 
   pub variant_wrong : {t : Machine V} {n : ℕ} (i c j : ℕ) → t.state.place ≡ Some i → Some (c, j) ≡ byte_at e.symbol i → None ≡ found c variant_kinds → n ≡ t.looks + 1 → t.state.pending_text ≡ None → PerformsAt e continuation.Variant t (Err (Abort fixed.Invalid)) (record t { looks = n })
   unfolding parse

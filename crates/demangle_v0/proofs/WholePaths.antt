@@ -4,7 +4,7 @@ use Rattle.std.proofs.Common.{inl, inr, ◌⊎◌, ◌≡◌, ℕ, ◌+◌, ◌�
 use Rattle.demangle_v0_grammar.specs.ValidationLooks.{looks_in}
 use Rattle.demangle_v0_grammar.specs.Traces.{Event, Trace, allows, events}
 use Rattle.demangle_v0_grammar.specs.Items.{a_path}
-use Rattle.demangle_v0_grammar.specs.Reading.{Form, form, Tree, nothing, piece, plain_piece, node, looked, unprinted, max_depth, unit_end, read_at, level_of, levels}
+use Rattle.demangle_v0_grammar.specs.Reading.{Form, Tree, nothing, piece, plain_piece, node, looked, unprinted, max_depth, unit_end, read_at}
 use Rattle.demangle_v0_grammar.specs.LookTotals.{allowed_in}
 use Rattle.demangle_v0.specs.Measure.{most_frames, AllInner}
 use Rattle.demangle_v0.specs.Steps.{Machine, machine}
@@ -41,9 +41,11 @@ pub over_place : (b : List ℕ) (form : Form) (s : State) → (remaining_trace b
 unfolding trace_at trace_of_stack
 over_place b form s = refl
 
-pub first_place : (b : List ℕ) (include_hash : Bool) (i : ℕ) → (remaining_trace b (form include_hash false) false continuation.Path (first_state i) []).place ≡ unit_end b a_path i 0
+pub first_place : (b : List ℕ) (form : Form) (i : ℕ) → form.fold_arguments ≡ false → (remaining_trace b form false continuation.Path (first_state i) []).place ≡ unit_end b a_path i 0
 unfolding trace_at unit_end read_at
-first_place b include_hash i = ap (λ (h : Trace). h.place) (remaining_trace-empty_stack b (form include_hash false) false continuation.Path (first_state i))
+first_place b form i e =
+    ap (λ (h : Trace). h.place) (remaining_trace-empty_stack b form false continuation.Path (first_state i))
+    ∙ ap (λ (folds : Bool). (read_at b folds false a_path i 0 0 true).place) e
 
 -- a tree that is not printed has the same events in either form
 silent_events : (plain : Bool) (t : Tree) → events plain false t ≡ events true false t
@@ -58,12 +60,12 @@ silent_events false (unprinted inside rest) =
     ap (λ xs. xs ++ events false false rest) (silent_events false inside) ∙ ap (λ xs. events true false inside ++ xs) (silent_events false rest)
 silent_events false _ = refl
 
-pub first_allowed : (b : List ℕ) (include_hash : Bool) (i : ℕ) → allowed_in (remaining_trace b (form include_hash false) false continuation.Path (first_state i) []).events ≡ looks_in (read_at b false false a_path i 0 0 true)
+pub first_allowed : (b : List ℕ) (form : Form) (i : ℕ) → form.fold_arguments ≡ false → allowed_in (remaining_trace b form false continuation.Path (first_state i) []).events ≡ looks_in (read_at b false false a_path i 0 0 true)
 unfolding trace_at read_at
-first_allowed b include_hash i =
-    let tree = (level_of b false (levels b false max_depth) false a_path true 0 i).tree in
-    ap (λ (h : Trace). allowed_in h.events) (remaining_trace-empty_stack b (form include_hash false) false continuation.Path (first_state i))
-    ∙ (ap allowed_in (silent_events include_hash tree) ∙ allowed_looks true false tree)
+first_allowed b form i e =
+    let tree = (read_at b form.fold_arguments false a_path i 0 0 true).tree in
+    ap (λ (h : Trace). allowed_in h.events) (remaining_trace-empty_stack b form false continuation.Path (first_state i))
+    ∙ (ap allowed_in (silent_events form.include_hash tree) ∙ (allowed_looks true false tree ∙ ap (λ (folds : Bool). looks_in (read_at b folds false a_path i 0 0 true)) e))
 
 -- The place and the looks of a parse without output.
 

@@ -1,6 +1,6 @@
 -- Internal: no public contract cites this.
 -- The frames as a stack stores them, and the room that each leaves for the frames above it.
-use Rattle.std.specs.Prelude.{List, [], length, ℕ, ◌%◌, ◌*◌, ◌+◌, ◌-◌, ◌^◌, ◌∷◌, ◌≤◌}
+use Rattle.std.specs.Prelude.{List, [], length, ℕ, ◌%◌, ◌*◌, ◌++◌, ◌+◌, ◌-◌, ◌^◌, ◌∷◌, ◌≤◌}
 use Rattle.demangle_v0.specs.declared.parser.frames.Frame.{Frame}
 use Rattle.demangle_v0.specs.declared.parser.frames.PackedFrame.{PackedFrame}
 
@@ -21,3 +21,13 @@ module _ {F : Type 0} (height : F → ℕ) where
 
 abbrev pub packed_frame : PackedFrame → Frame
 packed_frame p = record { continuation = p.continuation; in_value = p.in_value; letter = p.letter % 256; depth_left = p.depth_left; number = p.high * 2 ^ 64 + p.low }
+
+-- A stack: its frames, of which the last is the top, and how many it has room for.
+
+pub record Stack : Type 0 where
+  pub frames : List Frame
+  pub room : ℕ
+
+-- with a further frame
+abbrev pub on_top : Stack → Frame → Stack
+on_top stack f = record stack { frames = stack.frames ++ f ∷ [] }

@@ -165,7 +165,7 @@ ReadsImplPath b form below r began inner now looks = Reads (no_output_env b form
 pub record InImplPath (b : List ℕ) (form : Form) (base : ℕ) (began : ℕ) (inner printing : Checkpoint) (now : List Frame) (looks : ℕ) : Type 0 where
   pub below : List Frame
   pub height : length below ≡ base
-  pub skips : is_skipped form.fold_arguments printing.continuation ≡ true
+  pub skips : is_skipped form printing.continuation ≡ true
   pub valid : Valid printing.continuation printing.state below
   pub reads : ReadsImplPath b form below printing began inner now looks
 

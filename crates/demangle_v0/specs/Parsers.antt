@@ -1,8 +1,8 @@
 -- Internal: no public contract cites this.
 -- The effect of continuations on a parser.
-use Rattle.std.specs.Prelude.{◌≡◌, ℕ, ◌+◌, ◌-◌, ◌≤◌, Bool, false, ◌&&◌, Option, List, [], ◌∷◌, ◌++◌, length, Some, Result, Ok}
+use Rattle.std.specs.Prelude.{◌≡◌, ℕ, ◌+◌, ◌-◌, ◌*◌, ◌<◌, ◌≤◌, Bool, false, ◌&&◌, Option, List, [], ◌++◌, length, Some, None, Result, Ok}
 use Rattle.demangle_v0_grammar.specs.Traces.{Trace}
-use Rattle.demangle_v0_grammar.specs.Reading.{Form, Place}
+use Rattle.demangle_v0_grammar.specs.Reading.{Place}
 use Rattle.demangle_v0_grammar.specs.Items.{Items, Kind}
 use Rattle.demangle_v0_tokens.specs.Tokens.{TokenSpec, token_spec}
 use Rattle.demangle_v0_tokens.specs.declared.fixed_texts.FixedText.{FixedText}
@@ -14,7 +14,7 @@ use Rattle.demangle_sink.specs.declared.TextSink.{Ghosts as Sinks}
 use Rattle.demangle_sink.specs.declared.limit.SizeLimitedFmtAdapter.{SizeLimitedFmtAdapter}
 use Rattle.demangle_v0.specs.Productions.{brace_after}
 use Rattle.demangle_v0.specs.Measure.{AllInner}
-use Rattle.demangle_v0.specs.Steps.{Performs, PerformsAt, Env, CanEmit, CanRead, CanStep, StepPart, Machine, env, rest, machine, whole}
+use Rattle.demangle_v0.specs.Steps.{Performs, PerformsAt, Env, CanEmit, CanRead, CanStep, StepPart, Machine, env, rest, machine, step_looks_bound, whole}
 use Rattle.demangle_v0.specs.StepRuns.{PerformsLast, Runs, bare, name_frames, raised}
 use Rattle.demangle_v0.specs.Traces.{pushed_on, remaining_trace}
 use Rattle.demangle_v0.specs.Loops.{Valid, ReadDone, Skipped, StopsInImplPath, PrintDone, ValidUnfinished, Finishes, Ended, EndedAt, first_looks, first_state, looks_left, printing, no_output_env, no_output_machine}
@@ -23,134 +23,132 @@ use Rattle.demangle_v0.specs.declared.parser.Continuation.{Continuation}
 use Rattle.demangle_v0.specs.declared.parser.Continuation.TheVariants as continuation
 use Rattle.demangle_v0.specs.declared.parser.State.{State}
 use Rattle.demangle_v0.specs.declared.parser.StepError.{StepError}
+use Rattle.demangle_v0.specs.Frames.{on_top}
 use Rattle.demangle_v0.specs.declared.parser.frames.Frame.{Frame}
 use Rattle.demangle_v0.specs.declared.parser.machine.Parser.{Parser}
 use Rattle.demangle_v0.specs.declared.parser.steps.ReadOutcome.{ReadOutcome}
 use Rattle.demangle_v0.specs.declared.parser.steps.Checkpoint.{Checkpoint}
 use Rattle.demangle_v0.specs.declared.printer.Unfinished.{Unfinished}
 
--- the form in which a parser prints
-abbrev pub source_form : Source → Form
-source_form s = record { include_hash = s.include_hash; fold_arguments = s.fold_arguments }
-
 -- Changes to a parser.
 
-abbrev pub pushed : {N : ℕ} → Parser N → Frame → Parser N
-pushed m f = record m { stack = m.stack ++ f ∷ [] }
+abbrev pub pushed : Parser → Frame → Parser
+pushed m f = record m { stack = on_top m.stack f }
 
-abbrev pub with_text : {N : ℕ} → Parser N → FixedText → Parser N
+abbrev pub with_text : Parser → FixedText → Parser
 with_text m x = record m { state = record m.state { pending_text = Some x } }
 
-abbrev pub closed : {N : ℕ} → Parser N → Parser N
+abbrev pub closed : Parser → Parser
 closed m = record m { state = record m.state { is_bracket_open = false } }
 
-abbrev pub deeper : {N : ℕ} → Parser N → Parser N
+abbrev pub deeper : Parser → Parser
 deeper m = record m { state = record m.state { depth_left = m.state.depth_left - 1 } }
 
-abbrev pub moved : {N : ℕ} → Parser N → Place → ℕ → Parser N
+abbrev pub moved : Parser → Place → ℕ → Parser
 moved m i n = record m { state = record m.state { place = i }; looks = n }
 
-abbrev pub restacked : {N : ℕ} → Parser N → List Frame → Parser N
-restacked m now = record m { stack = now }
+abbrev pub restacked : Parser → List Frame → Parser
+restacked m now = record m { stack = record m.stack { frames = now } }
 
 -- with this text pending and, outside value position, a frame for the closing brace
-abbrev pub braced : {N : ℕ} → Parser N → Option FixedText → Parser N
-braced m x = record m { state = record m.state { pending_text = x }; stack = pushed_on m.stack (brace_after m.state) }
+abbrev pub braced : Parser → Option FixedText → Parser
+braced m x = record m { state = record m.state { pending_text = x }; stack = record m.stack { frames = pushed_on m.stack.frames (brace_after m.state) } }
 
-abbrev pub restated : {N : ℕ} → Parser N → State → ℕ → Parser N
+abbrev pub restated : Parser → State → ℕ → Parser
 restated m s n = record m { state = s; looks = n }
 
 -- further lifetimes are in scope
-abbrev pub binding : {N : ℕ} → Parser N → ℕ → Parser N
+abbrev pub binding : Parser → ℕ → Parser
 binding m number = record m { state = record m.state { lifetimes = m.state.lifetimes + number } }
 
 -- The token of this kind at the parser's place, if tokens are printed or if not.
-abbrev pub token_group : {N : ℕ} → Bool → Parser N → TokenKind → TokenSpec
+abbrev pub token_group : Bool → Parser → TokenKind → TokenSpec
 token_group is_printed m w = token_spec m.source.symbol.now w m.state.letter is_printed m.state.lifetimes m.state.place
 
-abbrev pub looked : {N : ℕ} → Parser N → ℕ → Parser N
+abbrev pub looked : Parser → ℕ → Parser
 looked m n = record m { looks = n }
 
 -- only the place, whether a bracket is open, and the count of looks may change
-abbrev pub Placed : {N : ℕ} → Parser N → Parser N → Type 0
+abbrev pub Placed : Parser → Parser → Type 0
 Placed m k = k ≡ record m { state = record m.state { place = k.state.place; is_bracket_open = k.state.is_bracket_open }; looks = k.looks }
 
-abbrev pub checked_at : {N : ℕ} → Parser N → Continuation → State → Parser N
+abbrev pub checked_at : Parser → Continuation → State → Parser
 checked_at m p s = record m { continuation = p; state = s }
 
 -- the checkpoint of a parser
-abbrev pub checkpoint_of : {N : ℕ} → Parser N → Checkpoint
+abbrev pub checkpoint_of : Parser → Checkpoint
 checkpoint_of m = record { continuation = m.continuation; state = m.state }
 
--- A new parser, for a path of the same symbol, or for the same parse without its frames.
+-- A new parser: of a path, or of the same parse, with room for this many frames.
 
-abbrev pub path_parser : {N : ℕ} → Source → ℕ → ℕ → Parser N
-path_parser source i n = record { source = source; continuation = continuation.Path; state = first_state i; stack = []; looks = n }
+abbrev pub path_parser : Source → ℕ → ℕ → ℕ → Parser
+path_parser source i room n = record { source = source; continuation = continuation.Path; state = first_state i; stack = record { frames = []; room = room }; fuel = 0; looks = n }
 
-abbrev pub emptied : {N M : ℕ} → Parser N → Parser M
-emptied m = record { source = m.source; continuation = m.continuation; state = m.state; stack = []; looks = m.looks }
+abbrev pub roomier : Parser → ℕ → Parser
+roomier m n = record m { stack = record m.stack { room = n } }
 
 -- The effect of a continuation.
 
-abbrev pub env_of : {N : ℕ} {V : Type 0} → Ghosts V → Parser N → Env V
-env_of output m = env output m.source.symbol.now (source_form m.source)
+abbrev pub env_of : {V : Type 0} → Ghosts V → Parser → Env V
+env_of output m = env output m.source.symbol.now m.source.form
 
-abbrev pub machine_of : {N : ℕ} {V : Type 0} → Parser N → V → Machine V
-machine_of m v = machine m.state m.stack v m.looks
+abbrev pub machine_of : {V : Type 0} → Parser → V → Machine V
+machine_of m v = machine m.state m.stack.frames v m.looks
 
--- no continuation changes the symbol, or whether hashes are printed
-abbrev pub Same : {N : ℕ} → Parser N → Parser N → Type 0
-Same m k = (k.source.symbol ≡ m.source.symbol) × (k.source.include_hash ≡ m.source.include_hash) × (k.source.fold_arguments ≡ m.source.fold_arguments)
+-- no continuation changes the symbol, the form in which it is printed, or the room of the stack
+abbrev pub Same : Parser → Parser → Type 0
+Same m k = (k.source.symbol ≡ m.source.symbol) × (k.source.form ≡ m.source.form) × (k.stack.room ≡ m.stack.room)
 
-pub record PerformsPart {N : ℕ} {V : Type 0} (output : Ghosts V) (part : StepPart) (m : Parser N) (v : V) (result : Result Continuation StepError) (k : Parser N) (w : V) : Type 0 where
+pub record PerformsPart {V : Type 0} (output : Ghosts V) (part : StepPart) (m : Parser) (v : V) (result : Result Continuation StepError) (k : Parser) (w : V) : Type 0 where
   pub does : Performs (env_of output m) (machine_of m v) part result (machine_of k w)
   pub same : Same m k
 
 -- when a continuation may run with an output, and its effect
-abbrev pub CanPerform : {N : ℕ} {V : Type 0} → Ghosts V → Continuation → Parser N → V → Type 0
-CanPerform {N} output p m v = CanStep (env_of output m) p N (machine_of m v)
+abbrev pub CanPerform : {V : Type 0} → Ghosts V → Continuation → Parser → V → Type 0
+CanPerform output p m v = CanStep (env_of output m) p m.stack.room (machine_of m v)
 
-abbrev pub Performed : {N : ℕ} {V : Type 0} → Ghosts V → Continuation → Parser N → V → Result Continuation StepError → Parser N → V → Type 0
+abbrev pub Performed : {V : Type 0} → Ghosts V → Continuation → Parser → V → Result Continuation StepError → Parser → V → Type 0
 Performed output p m v result k w = PerformsPart output (whole (env_of output m) p m.state) m v result k w
 
 -- the effect of these items, which remain of a production
-abbrev pub PerformedRest : {N : ℕ} {V : Type 0} → Ghosts V → Items → ℕ → ℕ → ℕ → Parser N → V → Result Continuation StepError → Parser N → V → Type 0
+abbrev pub PerformedRest : {V : Type 0} → Ghosts V → Items → ℕ → ℕ → ℕ → Parser → V → Result Continuation StepError → Parser → V → Type 0
 PerformedRest output items words weight above m v result k w = PerformsPart output (rest (env_of output m) items words weight above m.state) m v result k w
 
 -- the machine of a parser with these frames
-abbrev pub machine_over : {N : ℕ} {V : Type 0} → List Frame → Parser N → V → Machine V
+abbrev pub machine_over : {V : Type 0} → List Frame → Parser → V → Machine V
 machine_over stack m v = machine m.state stack v m.looks
 
 -- The effect of steps of which the last performs a continuation.
 
-abbrev pub PerformedLast : {N : ℕ} {V : Type 0} → Ghosts V → Continuation → Parser N → V → Result Continuation StepError → Parser N → V → Type 0
+abbrev pub PerformedLast : {V : Type 0} → Ghosts V → Continuation → Parser → V → Result Continuation StepError → Parser → V → Type 0
 PerformedLast output p m v result k w = PerformsLast (env_of output m) p (machine_of m v) result (machine_of k w)
 
 -- the same, which is the effect of that continuation alone if nothing is deferred
-abbrev pub PerformedAs : {N : ℕ} {V : Type 0} → Bool → Ghosts V → Continuation → Parser N → V → Result Continuation StepError → Parser N → V → Type 0
-PerformedAs defers output p m v result k w = PerformedLast output p m v result k w × (defers ≡ false → Performed output p m v result k w) × Same m k × (m.looks ≤ k.looks)
+abbrev pub PerformedAs : {V : Type 0} → Bool → Ghosts V → Continuation → Parser → V → Result Continuation StepError → Parser → V → Type 0
+PerformedAs defers output p m v result k w =
+    PerformedLast output p m v result k w × (defers ≡ false → Performed output p m v result k w) × Same m k × (m.looks ≤ k.looks) × (k.looks ≤ m.looks + step_looks_bound m.source.symbol.now m.state.place)
 
 -- The frames of `count` nested paths are not on the stack of `k`, which is after the path in them. The names of these
 -- paths lead to the result at `m`.
-abbrev pub NamesEnd : {N : ℕ} {V : Type 0} → Ghosts V → ℕ → ℕ → Parser N → V → Result Continuation StepError → Parser N → V → Type 0
+abbrev pub NamesEnd : {V : Type 0} → Ghosts V → ℕ → ℕ → Parser → V → Result Continuation StepError → Parser → V → Type 0
 NamesEnd {V = V} output count outer k v result m w =
-    (p : Continuation) (before : Machine V) → Runs (env_of output k) p (bare before) continuation.End (machine_over (name_frames k.state.in_value k.state.lifetimes outer count) k v) → before.stack ≡ k.stack → PerformsLast (env_of output k) p before result (machine_of m w)
+    (p : Continuation) (before : Machine V) → Runs (env_of output k) p (bare before) continuation.End (machine_over (name_frames k.state.in_value k.state.lifetimes outer count) k v) → before.stack ≡ k.stack.frames → PerformsLast (env_of output k) p before result (machine_of m w)
 
 -- the same, if the path in them was performed with this result
-abbrev pub NamesFollow : {N : ℕ} {V : Type 0} → Ghosts V → Result Continuation StepError → ℕ → ℕ → Parser N → V → Result Continuation StepError → Parser N → V → Type 0
+abbrev pub NamesFollow : {V : Type 0} → Ghosts V → Result Continuation StepError → ℕ → ℕ → Parser → V → Result Continuation StepError → Parser → V → Type 0
 NamesFollow {V = V} output performed count outer k v result m w =
     let frames = name_frames k.state.in_value k.state.lifetimes outer count in
-    (p at : Continuation) (before mid : Machine V) → Runs (env_of output k) p (bare before) at mid → before.stack ≡ k.stack → mid.stack ≡ frames
-    → PerformsAt (env_of output k) at (raised before.stack mid) performed (machine_over (k.stack ++ frames) k v) → PerformsLast (env_of output k) p before result (machine_of m w)
+    (p at : Continuation) (before mid : Machine V) → Runs (env_of output k) p (bare before) at mid → before.stack ≡ k.stack.frames → mid.stack ≡ frames
+    → PerformsAt (env_of output k) at (raised before.stack mid) performed (machine_over (k.stack.frames ++ frames) k v) → PerformsLast (env_of output k) p before result (machine_of m w)
 
 -- when a token may be printed
-abbrev pub CanPrint : {N : ℕ} {V : Type 0} → Ghosts V → Parser N → V → Type 0
+abbrev pub CanPrint : {V : Type 0} → Ghosts V → Parser → V → Type 0
 CanPrint output m v = CanEmit (env_of output m) m.state v
 
 -- the effect of a back reference to a production that starts with this continuation
-abbrev pub Followed : {N : ℕ} {V : Type 0} → Ghosts V → Continuation → Parser N → V → Result Continuation StepError → Parser N → Type 0
+abbrev pub Followed : {V : Type 0} → Ghosts V → Continuation → Parser → V → Result Continuation StepError → Parser → Type 0
 Followed output p m v result k =
-    (closed : Bool) (kind : Kind) (value : Bool) → IsProduction m.source.symbol.now (source_form m.source) p m.state.in_value m.state.letter m.state.lifetimes closed kind value
+    (closed : Bool) (kind : Kind) (value : Bool) → IsProduction m.source.symbol.now m.source.form p m.state.in_value m.state.letter m.state.lifetimes closed kind value
     → PerformsPart output (target_part (env_of output m) closed kind value m.state) m v result k v
 
 -- An output that never receives a token, whether it prints or not.
@@ -158,85 +156,110 @@ abbrev pub unused_output : Bool → Ghosts (Unit {0})
 unused_output is_printed = record { is_printed = is_printed; ready = λ v. Unit {0}; prints = λ v texts result w. ⊥ }
 
 -- when a continuation may run that emits nothing, and its effect
-abbrev pub CanAdvance : {N : ℕ} → Continuation → Parser N → Type 0
-CanAdvance {N} p m = CanRead p N m.state m.stack
+abbrev pub CanAdvance : Continuation → Parser → Type 0
+CanAdvance p m = CanRead p m.stack.room m.state m.stack.frames
 
-abbrev pub Advanced : {N : ℕ} → Continuation → Parser N → Result Continuation StepError → Parser N → Type 0
+abbrev pub Advanced : Continuation → Parser → Result Continuation StepError → Parser → Type 0
 Advanced p m result k = (is_printed : Bool) → Performed (unused_output is_printed) p m tt result k tt
 
 -- the same, except at the first argument of a list that is printed folded
-abbrev pub AdvancedUnfolded : {N : ℕ} → Bool → Continuation → Parser N → Result Continuation StepError → Parser N → Type 0
-AdvancedUnfolded is_first p m result k = (is_printed : Bool) → is_first && (is_printed && m.source.fold_arguments) ≡ false → Performed (unused_output is_printed) p m tt result k tt
+abbrev pub AdvancedUnfolded : Bool → Continuation → Parser → Result Continuation StepError → Parser → Type 0
+AdvancedUnfolded is_first p m result k = (is_printed : Bool) → is_first && (is_printed && m.source.form.fold_arguments) ≡ false → Performed (unused_output is_printed) p m tt result k tt
 
 -- the effect of a continuation that is only used if nothing is printed
-abbrev pub AdvancedWithoutOutput : {N : ℕ} → Continuation → Parser N → Result Continuation StepError → Parser N → Type 0
+abbrev pub AdvancedWithoutOutput : Continuation → Parser → Result Continuation StepError → Parser → Type 0
 AdvancedWithoutOutput p m result k = Performed (unused_output false) p m tt result k tt
 
-abbrev pub AdvancedRest : {N : ℕ} → Items → ℕ → ℕ → ℕ → Parser N → Result Continuation StepError → Parser N → Type 0
+abbrev pub AdvancedRest : Items → ℕ → ℕ → ℕ → Parser → Result Continuation StepError → Parser → Type 0
 AdvancedRest items words weight above m result k = (is_printed : Bool) → PerformedRest (unused_output is_printed) items words weight above m tt result k tt
+
+-- The pace of a step.
+
+-- the bytes from a place on; none after an error
+abbrev pub left_at : ℕ → Place → ℕ
+left_at n None = 0
+left_at n (Some i) = n - i
+
+-- A step makes four looks for each byte that it reads, and `more` looks. A reference leads back, which the fuel pays for.
+-- Nothing is known once the fuel is used up.
+abbrev pub Paced : ℕ → Parser → Parser → Type 0
+Paced more m k = 0 < k.fuel → k.looks + 4 * k.fuel + 4 * left_at (length m.source.symbol.now) k.state.place ≤ m.looks + 4 * m.fuel + 4 * left_at (length m.source.symbol.now) m.state.place + more
+
+-- the same without a reference: at most four looks for each byte that is read, and `more` looks
+abbrev pub ReadsOn : ℕ → Parser → Parser → Type 0
+ReadsOn more m k = k.looks + 4 * left_at (length m.source.symbol.now) k.state.place ≤ m.looks + 4 * left_at (length m.source.symbol.now) m.state.place + more
+
+-- at most four looks for each byte that is left, and `more` looks, whatever was read
+abbrev pub LooksAt : ℕ → Parser → Parser → Type 0
+LooksAt more m k = k.looks ≤ m.looks + 4 * left_at (length m.source.symbol.now) m.state.place + more
+
+-- the most looks of a parse with a budget, whatever its result: the fuel and the bytes that are left pay for all but those
+-- of the last part that is not printed
+abbrev pub most_looks : Parser → ℕ
+most_looks m = m.looks + 4 * m.fuel + 4 * left_at (length m.source.symbol.now) m.state.place + 32 * (length m.source.symbol.now + 1) + 7
 
 -- The effect of the loops.
 
 -- the stack has room for all frames that the rest can need, and the lifetimes fit
-abbrev pub IsValid : {N : ℕ} → Parser N → Type 0
-IsValid m = Valid m.continuation m.state m.stack
+abbrev pub IsValid : Parser → Type 0
+IsValid m = Valid m.continuation m.state m.stack.frames
 
 -- only the count of looks changes
-abbrev pub Recounted : {N : ℕ} → Parser N → Parser N → Type 0
+abbrev pub Recounted : Parser → Parser → Type 0
 Recounted m k = k ≡ looked m k.looks
 
 -- the remaining trace, without output
-abbrev pub trace_without_output : {N : ℕ} → Parser N → Trace
-trace_without_output m = remaining_trace m.source.symbol.now (source_form m.source) false m.continuation m.state m.stack
+abbrev pub trace_without_output : Parser → Trace
+trace_without_output m = remaining_trace m.source.symbol.now m.source.form false m.continuation m.state m.stack.frames
 
 -- without output, `m` is parsed until it stops at `k`, above the lowest `base` frames
-abbrev pub ReadSteps : {N : ℕ} → ℕ → Parser N → ReadOutcome → Parser N → Type 0
-ReadSteps base m result k = (below above : List Frame) → m.stack ≡ below ++ above → length below ≡ base → AllInner above
-    → ReadDone (no_output_env m.source.symbol.now (source_form m.source)) below m.continuation (no_output_machine m.state above m.looks) result k.continuation (no_output_machine k.state k.stack k.looks)
+abbrev pub ReadSteps : ℕ → Parser → ReadOutcome → Parser → Type 0
+ReadSteps base m result k = (below above : List Frame) → m.stack.frames ≡ below ++ above → length below ≡ base → AllInner above
+    → ReadDone (no_output_env m.source.symbol.now m.source.form) below m.continuation (no_output_machine m.state above m.looks) result k.continuation (no_output_machine k.state k.stack.frames k.looks)
 
 -- the part that is not printed was read to its end
-abbrev pub SkipsOver : {N : ℕ} → Parser N → Parser N → Type 0
-SkipsOver m k = Skipped m.source.symbol.now (source_form m.source) m.continuation m.state m.stack m.looks k.continuation k.state k.stack k.looks
+abbrev pub SkipsOver : Parser → Parser → Type 0
+SkipsOver m k = Skipped m.source.symbol.now m.source.form m.continuation m.state m.stack.frames m.looks k.continuation k.state k.stack.frames k.looks
 
 -- the impl path was read until the stack was full
-abbrev pub SkipsFull : {N : ℕ} → Parser N → Unfinished → Parser N → Type 0
-SkipsFull {N} m x k = StopsInImplPath m.source.symbol.now (source_form m.source) (checkpoint_of m) m.stack m.looks x N (checkpoint_of k) k.stack k.looks
+abbrev pub SkipsFull : Parser → Unfinished → Parser → Type 0
+SkipsFull m x k = StopsInImplPath m.source.symbol.now m.source.form (checkpoint_of m) m.stack.frames m.looks x k.stack.room (checkpoint_of k) k.stack.frames k.looks
 
 -- the same for the rest of an impl path that was read in part
-abbrev pub FinishesSkip : {N : ℕ} → Parser N → Unfinished → Option Unfinished → Parser N → Type 0
-FinishesSkip {N} m x result k = Finishes m.source.symbol.now (source_form m.source) N x (checkpoint_of m) m.stack m.looks result (checkpoint_of k) k.stack k.looks
+abbrev pub FinishesSkip : Parser → Unfinished → Option Unfinished → Parser → Type 0
+FinishesSkip m x result k = Finishes m.source.symbol.now m.source.form k.stack.room x (checkpoint_of m) m.stack.frames m.looks result (checkpoint_of k) k.stack.frames k.looks
 
-abbrev pub printing_of : {N : ℕ} {S : Type 0} → Sinks S → Parser N → Env (SizeLimitedFmtAdapter S)
-printing_of sink m = printing sink m.source.symbol.now (source_form m.source)
+abbrev pub printing_of : {S : Type 0} → Sinks S → Parser → Env (SizeLimitedFmtAdapter S)
+printing_of sink m = printing sink m.source.symbol.now m.source.form
 
 -- the unfinished part can be printed
-abbrev pub UnfinishedIsValid : {N : ℕ} → ℕ → Result (Option Unfinished) SinkRefused → Parser N → Type 0
-UnfinishedIsValid n result m = ValidUnfinished m.source.symbol.now (source_form m.source) n result (checkpoint_of m) m.stack m.looks
+abbrev pub UnfinishedIsValid : ℕ → Result (Option Unfinished) SinkRefused → Parser → Type 0
+UnfinishedIsValid n result m = ValidUnfinished m.source.symbol.now m.source.form n result (checkpoint_of m) m.stack.frames m.looks
 
 -- the looks that are made in any case: by the next step, and by the unfinished part
-abbrev pub first_looks_of : {N : ℕ} → Parser N → ℕ
+abbrev pub first_looks_of : Parser → ℕ
 first_looks_of m = first_looks m.continuation m.state
 
-abbrev pub unfinished_looks : {N : ℕ} → Result (Option Unfinished) SinkRefused → Parser N → ℕ
+abbrev pub unfinished_looks : Result (Option Unfinished) SinkRefused → Parser → ℕ
 unfinished_looks result m = looks_left result (checkpoint_of m)
 
 -- `m` printed until it stopped at `k`
-abbrev pub PrintsSteps : {N : ℕ} {S : Type 0} → Sinks S → Parser N → SizeLimitedFmtAdapter S → Result (Option Unfinished) SinkRefused → Parser N → SizeLimitedFmtAdapter S → Type 0
-PrintsSteps sink m v result k w = PrintDone (printing_of sink m) m.continuation (machine_of m v) result (checkpoint_of k) k.stack w k.looks
+abbrev pub PrintsSteps : {S : Type 0} → Sinks S → Parser → SizeLimitedFmtAdapter S → Result (Option Unfinished) SinkRefused → Parser → SizeLimitedFmtAdapter S → Type 0
+PrintsSteps sink m v result k w = PrintDone (printing_of sink m) m.continuation (machine_of m v) result (checkpoint_of k) k.stack.frames w k.looks
 
 -- `m` printed until nothing was left
-abbrev pub PrintsAll : {N : ℕ} {S : Type 0} → Sinks S → Parser N → SizeLimitedFmtAdapter S → Result (Unit {0}) SinkRefused → Parser N → SizeLimitedFmtAdapter S → Type 0
+abbrev pub PrintsAll : {S : Type 0} → Sinks S → Parser → SizeLimitedFmtAdapter S → Result (Unit {0}) SinkRefused → Parser → SizeLimitedFmtAdapter S → Type 0
 PrintsAll sink m v result k w = Ended (printing_of sink m) m.continuation (machine_of m v) result w k.looks
 
 -- the same, and parsing ended at this place
-abbrev pub PrintsTo : {N : ℕ} {S : Type 0} → Sinks S → Parser N → SizeLimitedFmtAdapter S → ℕ → Parser N → SizeLimitedFmtAdapter S → Type 0
+abbrev pub PrintsTo : {S : Type 0} → Sinks S → Parser → SizeLimitedFmtAdapter S → ℕ → Parser → SizeLimitedFmtAdapter S → Type 0
 PrintsTo sink m v place k w = EndedAt (printing_of sink m) m.continuation (machine_of m v) place w k.looks
 
 -- the same for the unfinished part of a text
-abbrev pub PrintsOn : {N : ℕ} {S : Type 0} → Sinks S → Parser N → Unfinished → SizeLimitedFmtAdapter S → Result (Option Unfinished) SinkRefused → Parser N → SizeLimitedFmtAdapter S → Type 0
-PrintsOn {S = S} sink m x v result k w = (p : Continuation) (began : Machine (SizeLimitedFmtAdapter S)) → PrintDone (printing_of sink m) p began (Ok (Some x)) (checkpoint_of m) m.stack v m.looks
-    → PrintDone (printing_of sink m) p began result (checkpoint_of k) k.stack w k.looks
+abbrev pub PrintsOn : {S : Type 0} → Sinks S → Parser → Unfinished → SizeLimitedFmtAdapter S → Result (Option Unfinished) SinkRefused → Parser → SizeLimitedFmtAdapter S → Type 0
+PrintsOn {S = S} sink m x v result k w = (p : Continuation) (began : Machine (SizeLimitedFmtAdapter S)) → PrintDone (printing_of sink m) p began (Ok (Some x)) (checkpoint_of m) m.stack.frames v m.looks
+    → PrintDone (printing_of sink m) p began result (checkpoint_of k) k.stack.frames w k.looks
 
-abbrev pub EndsPrinting : {N : ℕ} {S : Type 0} → Sinks S → Parser N → Unfinished → SizeLimitedFmtAdapter S → Result (Unit {0}) SinkRefused → Parser N → SizeLimitedFmtAdapter S → Type 0
-EndsPrinting {S = S} sink m x v result k w = (p : Continuation) (began : Machine (SizeLimitedFmtAdapter S)) → PrintDone (printing_of sink m) p began (Ok (Some x)) (checkpoint_of m) m.stack v m.looks
+abbrev pub EndsPrinting : {S : Type 0} → Sinks S → Parser → Unfinished → SizeLimitedFmtAdapter S → Result (Unit {0}) SinkRefused → Parser → SizeLimitedFmtAdapter S → Type 0
+EndsPrinting {S = S} sink m x v result k w = (p : Continuation) (began : Machine (SizeLimitedFmtAdapter S)) → PrintDone (printing_of sink m) p began (Ok (Some x)) (checkpoint_of m) m.stack.frames v m.looks
     → Ended (printing_of sink m) p began result w k.looks

@@ -81,14 +81,14 @@ none_open_if false h = h
 
 -- a continuation with which a production of this kind starts
 pub record IsProduction (b : List ℕ) (form : Form) (p : Continuation) (in_value : Bool) (letter lifetimes : ℕ) (closed : Bool) (k : Kind) (value : Bool) : Type 0 where
-  pub same : (left t : ℕ) → trace_at b form true p in_value letter left lifetimes (Some t) false ≡ none_open_if closed (of form.include_hash true (level_of b form.fold_arguments (levels b form.fold_arguments left) true k value lifetimes t))
+  pub same : (left t : ℕ) → trace_at b form true p in_value letter left lifetimes (Some t) false ≡ none_open_if closed (of form true (level_of b form.fold_arguments (levels b form.fold_arguments left) true k value lifetimes t))
   pub light : weight_at p ≤ 2
   pub low : (left : ℕ) → height_at p left ≤ 8 * left + 2
   pub fits : (left : ℕ) → Fits continuation.Path left lifetimes → Fits p left lifetimes
 
 -- a back reference to a production of this kind, as a part
 abbrev pub target_part : {V : Type 0} → Env V → Bool → Kind → Bool → State → StepPart
-target_part env closed k value s = part 1 (none_open_if closed (of env.form.include_hash env.output.is_printed (parse (target k value) (context_at env.symbol env.form.fold_arguments env.output.is_printed s.depth_left s.lifetimes) s.place))) 1 (8 * s.depth_left + 2)
+target_part env closed k value s = part 1 (none_open_if closed (of env.form env.output.is_printed (parse (target k value) (context_at env.symbol env.form env.output.is_printed s.depth_left s.lifetimes) s.place))) 1 (8 * s.depth_left + 2)
 
 -- The generic arguments of paths.
 

@@ -1,16 +1,17 @@
 -- Internal: no public contract cites this.
 -- The parts that a printing parse reads and does not print: impl paths, and folded arguments.
 use Rattle.std.specs.Prelude.{Bool, true, false}
+use Rattle.demangle_v0_grammar.specs.Reading.{Form}
 use Rattle.demangle_v0.specs.declared.parser.Continuation.{Continuation}
 use Rattle.demangle_v0.specs.declared.parser.Continuation.TheVariants as continuation
 
 -- whether such a part is next, with arguments folded or not
-abbrev pub is_skipped : Bool → Continuation → Bool
-is_skipped folds continuation.InherentImplPath = true
-is_skipped folds continuation.TraitImplPath = true
-is_skipped folds continuation.FirstArgument = folds
-is_skipped folds continuation.FirstTraitArgument = folds
-is_skipped folds p = false
+abbrev pub is_skipped : Form → Continuation → Bool
+is_skipped form continuation.InherentImplPath = true
+is_skipped form continuation.TraitImplPath = true
+is_skipped form continuation.FirstArgument = form.fold_arguments
+is_skipped form continuation.FirstTraitArgument = form.fold_arguments
+is_skipped form p = false
 
 -- the continuation that reads the part
 abbrev pub skipped_continuation : Continuation → Continuation

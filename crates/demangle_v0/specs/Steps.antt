@@ -55,11 +55,11 @@ part words h weight height = record { words = words; trace = h; weight = weight;
 -- the texts of a token, if one was emitted
 abbrev pub emitted_texts : {V : Type 0} → Env V → Option Token → List Text
 emitted_texts env None = []
-emitted_texts env (Some s) = texts_of env.symbol env.form.include_hash s
+emitted_texts env (Some s) = texts_of env.symbol env.form s
 
 abbrev pub Emits : {V : Type 0} → Env V → Option Token → V → V → Type 0
 Emits env None v w = v ≡ w
-Emits env (Some s) v w = env.output.prints v (texts_of env.symbol env.form.include_hash s) (Ok tt) w
+Emits env (Some s) v w = env.output.prints v (texts_of env.symbol env.form s) (Ok tt) w
 
 -- The step continues at another continuation, and may have pushed a frame. It prints at most one text: a token that
 -- goes to the output, or the pending text.
@@ -101,8 +101,8 @@ pub record Stopped {V : Type 0} (env : Env V) (part : StepPart) (before after : 
   pub emitted : Token
   pub rest : Trace
   pub rejection : SinkRefused
-  pub prints : env.output.prints before.output (texts_of env.symbol env.form.include_hash emitted) (Err rejection) after.output
-  pub reads : part.trace ≡ with_looks prefix (with_texts env.output.is_printed (texts_of env.symbol env.form.include_hash emitted) rest)
+  pub prints : env.output.prints before.output (texts_of env.symbol env.form emitted) (Err rejection) after.output
+  pub reads : part.trace ≡ with_looks prefix (with_texts env.output.is_printed (texts_of env.symbol env.form emitted) rest)
   pub primitive_count : length prefix ≤ part.words
   pub paid_looks : after.looks ≤ before.looks + (total prefix + 2)
   pub exact : env.output.is_printed ≡ false → after.looks ≤ before.looks + total prefix
@@ -145,7 +145,7 @@ whole env p s = part (primitives_at p) (trace_of_state env.symbol env.form env.o
 -- these remaining items of a production, with the most primitives to read, their weight, and the most frames that they
 -- add
 abbrev pub rest : {V : Type 0} → Env V → Items → ℕ → ℕ → ℕ → State → StepPart
-rest env items words weight above s = part words (with_closed_bracket (of env.form.include_hash env.output.is_printed (parse items (context_at env.symbol env.form.fold_arguments env.output.is_printed s.depth_left s.lifetimes) s.place))) weight (8 * s.depth_left + above)
+rest env items words weight above s = part words (with_closed_bracket (of env.form env.output.is_printed (parse items (context_at env.symbol env.form env.output.is_printed s.depth_left s.lifetimes) s.place))) weight (8 * s.depth_left + above)
 
 -- The effect of a continuation.
 abbrev pub PerformsAt : {V : Type 0} → Env V → Continuation → Machine V → Result Continuation StepError → Machine V → Type 0

@@ -21,17 +21,17 @@ with_closed_bracket h = record h { is_bracket_open = false }
 unfoldable pub trace_at : List ℕ → Form → Bool → Continuation → Bool → ℕ → ℕ → ℕ → Place → Bool → Trace
 trace_at b form out continuation.End v c left n i o = empty_trace i o
 trace_at b form out continuation.AfterBackref v c left n i o = empty_trace (Some n) o
-trace_at b form out continuation.Path v c left n i o = with_closed_bracket (of form.include_hash out (unit_outcome (context_at b form.fold_arguments out left n) a_path v i))
-trace_at b form out continuation.«Type» v c left n i o = with_closed_bracket (of form.include_hash out (unit_outcome (context_at b form.fold_arguments out left n) a_type false i))
-trace_at b form out continuation.Constant v c left n i o = with_closed_bracket (of form.include_hash out (unit_outcome (context_at b form.fold_arguments out left n) a_constant v i))
-trace_at b form out continuation.Pattern v c left n i o = with_closed_bracket (of form.include_hash out (unit_outcome (context_at b form.fold_arguments out left n) a_pattern false i))
-trace_at b form out continuation.TraitPath v c left n i o = of form.include_hash out (unit_outcome (context_at b form.fold_arguments out left n) a_trait_path false i)
-trace_at b form out continuation.OpenTraitArguments v c left n i o = of form.include_hash out (parse (items_at continuation.OpenTraitArguments v c) (context_at b form.fold_arguments out left n) i)
-trace_at b form out continuation.FirstTraitArgument v c left n i o = of form.include_hash out (parse (items_at continuation.FirstTraitArgument v c) (context_at b form.fold_arguments out left n) i)
-trace_at b form out continuation.FoldedTraitArguments v c left n i o = of form.include_hash out (parse (items_at continuation.FoldedTraitArguments v c) (context_at b form.fold_arguments out left n) i)
-trace_at b form out continuation.NextTraitArgument v c left n i o = of form.include_hash out (parse (items_at continuation.NextTraitArgument v c) (context_at b form.fold_arguments out left n) i)
-trace_at b form out continuation.Bindings v c left n i o = with_closed_bracket (of form.include_hash out (parse (bindings_left o) (context_at b form.fold_arguments out left n) i))
-trace_at b form out p v c left n i o = with_closed_bracket (of form.include_hash out (parse (items_at p v c) (context_at b form.fold_arguments out left n) i))
+trace_at b form out continuation.Path v c left n i o = with_closed_bracket (of form out (unit_outcome (context_at b form out left n) a_path v i))
+trace_at b form out continuation.«Type» v c left n i o = with_closed_bracket (of form out (unit_outcome (context_at b form out left n) a_type false i))
+trace_at b form out continuation.Constant v c left n i o = with_closed_bracket (of form out (unit_outcome (context_at b form out left n) a_constant v i))
+trace_at b form out continuation.Pattern v c left n i o = with_closed_bracket (of form out (unit_outcome (context_at b form out left n) a_pattern false i))
+trace_at b form out continuation.TraitPath v c left n i o = of form out (unit_outcome (context_at b form out left n) a_trait_path false i)
+trace_at b form out continuation.OpenTraitArguments v c left n i o = of form out (parse (items_at continuation.OpenTraitArguments v c) (context_at b form out left n) i)
+trace_at b form out continuation.FirstTraitArgument v c left n i o = of form out (parse (items_at continuation.FirstTraitArgument v c) (context_at b form out left n) i)
+trace_at b form out continuation.FoldedTraitArguments v c left n i o = of form out (parse (items_at continuation.FoldedTraitArguments v c) (context_at b form out left n) i)
+trace_at b form out continuation.NextTraitArgument v c left n i o = of form out (parse (items_at continuation.NextTraitArgument v c) (context_at b form out left n) i)
+trace_at b form out continuation.Bindings v c left n i o = with_closed_bracket (of form out (parse (bindings_left o) (context_at b form out left n) i))
+trace_at b form out p v c left n i o = with_closed_bracket (of form out (parse (items_at p v c) (context_at b form out left n) i))
 
 -- the remaining trace of the production that a parse is in
 abbrev pub trace_of_state : List ℕ → Form → Bool → Continuation → State → Trace

@@ -2,24 +2,22 @@
 #![tactic(auto)]
 
 ghost use Rattle.std.specs.Prelude.{◌≡◌, ◌+◌, ◌-◌, ◌*◌, ◌≤◌, IfOk, IfSome, IfNone, OnErr, OnSome, Ok, Some, None, IsTrue, IsAscii, false, length, option_map};
-ghost use Rattle.demangle_v0_grammar.specs.Reading.{form, path_texts};
+ghost use Rattle.demangle_v0_grammar.specs.Reading.{path_texts};
 ghost use Rattle.demangle_v0_grammar.specs.V0.{v0_inner, v0_of};
 ghost use Rattle.demangle_sink.specs.Limit.{Prints, Ready};
 
 use crate::validation::{begins_path, print_to_suffix, suffix_at};
 use demangle_sink::{SizeLimitedFmtAdapter, TextSink};
 use demangle_symbol::cursor::{Looks, ParseError, Symbol};
+use demangle_symbol::form::Form;
 use demangle_v0_tokens::source::Source;
 
-mod acceptance;
+mod fuel;
 mod parser;
 mod printer;
-#[cfg(test)]
-mod tests;
 mod validation;
 mod value;
 
-pub use acceptance::demangle_printed_within;
 pub use value::Demangle;
 
 /// Returns the text after the prefix of a v0 symbol, or `None` without such a prefix.
@@ -115,37 +113,39 @@ pub fn demangle<'s>(
     Ok((Demangle::new(symbol), &inner[end..]))
 }
 
-/// Reads a v0 symbol and prints its first path, in one pass over the path: with hashes or without
-/// them, and with its generic arguments or with `_` for them. Returns the symbol and the suffix
-/// after its paths. The text must be ASCII.
+/// Reads a v0 symbol and prints its first path, in one pass over the path, and counts its looks:
+/// with hashes or without them, and with its generic arguments or with `_` for them. Returns the
+/// symbol and the suffix after its paths. The text must be ASCII.
 ///
 /// Returns `None` if the text is not a v0 symbol. Also returns `None` if a lifetime or a reference
-/// of the path has an error, if the limit or the sink rejects a piece, or if the path is nested
-/// deeply. Then an unknown part of the path may be printed, and `demangle` says whether the text is
-/// a symbol.
+/// of the path has an error, if the limit or the sink rejects a piece, if the path is nested
+/// deeply, or if its references lead back too far for the length of the text. Then an unknown part
+/// of the path may be printed, and `demangle` says whether the text is a symbol. In any case the
+/// looks are bounded by the length of the text.
 pub fn demangle_printed<'s, S: TextSink>(
     s: &'s str,
     out: &mut SizeLimitedFmtAdapter<'_, S>,
-    include_hash: bool,
-    fold_arguments: bool,
+    form: Form,
+    looks: &mut Looks,
 ) -> Option<(Demangle<'s>, &'s str)>
     requires ascii { IsAscii s.now }
     requires ready { Ready S.TextSink out.old }
     ensures some { IfSome result (λ r. v0_of s.now ≡ Some (r.0, r.1.now)) }
     ensures prints { IfSome result (λ r. Prints S.TextSink out.old
-        (path_texts r.0 (form include_hash fold_arguments)) (Ok tt) out.new) }
+        (path_texts r.0 form) (Ok tt) out.new) }
+    ensures suffix { IfSome result (λ r. length r.1.now ≤ length s.now) }
+    ensures grows { looks.old ≤ looks.new }
+    ensures most { looks.new ≤ looks.old + 138 * (length s.now + 1) }
 {
-    let mut looks = Looks::new();
-    let inner = ascii_inner_of(s, true, &mut looks)?;
+    let inner = ascii_inner_of(s, true, looks)?;
     let symbol = Symbol::new(inner);
-    if !begins_path(&symbol, 0, &mut looks) {
+    if !begins_path(&symbol, 0, looks) {
         return None;
     }
     let source = Source {
         symbol: &symbol,
-        include_hash,
-        fold_arguments,
+        form,
     };
-    let end = print_to_suffix(source, out, &mut looks)?;
+    let end = print_to_suffix(source, out, looks)?;
     Some((Demangle::new(symbol), &inner[end..]))
 }

@@ -193,18 +193,19 @@ pub enum Continuation {
 }
 
 /// The parser's state, apart from the frame stack.
+// The compiler keeps the order of the fields. In this one the fewest bytes are unused.
 #[derive(Clone, Copy)]
 pub struct State {
-    /// Whether the current path or constant is in value position.
-    in_value: bool,
-    /// The namespace of a nested path, or the type tag of a number.
-    letter: u8,
-    /// How many more levels of nesting are allowed.
-    depth_left: u16,
     /// The number of lifetimes in scope.
     lifetimes: u128,
     /// The offset of the next byte, or `None` after an error.
     place: Option<usize>,
+    /// How many more levels of nesting are allowed.
+    depth_left: u16,
+    /// Whether the current path or constant is in value position.
+    in_value: bool,
+    /// The namespace of a nested path, or the type tag of a number.
+    letter: u8,
     /// Whether the `<` of the last dyn trait path is still open.
     is_bracket_open: bool,
     /// The fixed text that `steps` prints after the continuation's method returns.

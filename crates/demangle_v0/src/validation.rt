@@ -1,54 +1,46 @@
 //! Validates v0 symbols: parses them without output, and finds the suffix.
-ghost use Rattle.std.specs.Prelude.{◌≡◌, ◌+◌, ◌≤◌, [], false, true, IsAscii, IfSome, IsSome, Ok, Some};
+ghost use Rattle.std.specs.Prelude.{◌≡◌, ◌+◌, ◌*◌, ◌≤◌, [], length, false, true, IsAscii, IfSome, IsSome, Ok, Some};
 ghost use Rattle.demangle_v0_grammar.specs.Items.{a_path};
 ghost use Rattle.demangle_v0.specs.Parsers.{IsValid, Recounted, Same, trace_without_output};
 ghost use Rattle.demangle_v0.specs.Measure.{AllInner};
-ghost use Rattle.demangle_v0_grammar.specs.Reading.{form, starts_second_path, path_texts, unit_end, suffix_place, read_at};
+ghost use Rattle.demangle_v0.specs.Loops.{first_state};
+ghost use Rattle.demangle_v0_grammar.specs.Reading.{starts_second_path, path_texts, unit_end, suffix_place, read_at};
 ghost use Rattle.demangle_v0_grammar.specs.LookTotals.{allowed_in};
 ghost use Rattle.demangle_v0_grammar.specs.ValidationLooks.{looks_in, suffix_looks, accepting_looks};
 ghost use Rattle.demangle_sink.specs.Limit.{Prints, Ready};
 
-use crate::parser::frames::{FULL_STACK, MIDDLE_STACK, SHORT_STACK};
+use crate::fuel::fuel_of;
+use crate::parser::Continuation;
+use crate::parser::frames::{FULL_STACK, MIDDLE_STACK, SHORT_STACK, UNUSED_FRAME};
 use crate::parser::machine::Parser;
 use crate::parser::steps::ReadOutcome;
 use demangle_sink::{SizeLimitedFmtAdapter, TextSink};
 use demangle_symbol::cursor::{Looks, Symbol};
+use demangle_symbol::form::Form;
 use demangle_v0_tokens::source::Source;
 
-impl Parser<'_, FULL_STACK> {
-    /// Reads the rest. Returns the place after it, or `None` after an error.
-    #[inline(always)]
-    fn read_to_end(&mut self) -> Option<usize>
-        requires valid { IsValid self.old }
-        requires inner { AllInner self.old.stack }
-        ensures value { result ≡ (trace_without_output self.old).place }
-        ensures looks { self.new.looks ≤ self.old.looks + allowed_in (trace_without_output self.old).events }
-        ensures grows { self.old.looks ≤ self.new.looks }
-    {
-        match self.read_steps(0) {
-            ReadOutcome::Complete => self.place(),
-            // A stack with room for every frame is never full.
-            ReadOutcome::StackFull | ReadOutcome::Failed => None,
-        }
-    }
-}
-
-impl Parser<'_, MIDDLE_STACK> {
+impl Parser<'_, '_> {
     /// Reads the rest in a stack with room for every frame. Returns the place after it, or `None`
     /// after an error.
     #[inline(never)]
     fn read_in_full_stack(&mut self) -> Option<usize>
         requires valid { IsValid self.old }
-        requires inner { AllInner self.old.stack }
+        requires inner { AllInner self.old.stack.frames }
+        requires smaller { self.old.stack.room ≤ FULL_STACK }
         ensures value { result ≡ (trace_without_output self.old).place }
         ensures looks { self.new.looks ≤ self.old.looks + allowed_in (trace_without_output self.old).events }
         ensures grows { self.old.looks ≤ self.new.looks }
     {
-        let mut parser: Parser<FULL_STACK> = self.without_frames();
-        parser.stack.append(&self.stack);
-        let end = parser.read_to_end();
+        let mut memory = [UNUSED_FRAME; FULL_STACK];
+        let mut parser = self.in_larger_stack(&mut memory);
+        let outcome = parser.read_steps(0);
+        let end = parser.place();
         self.looks = parser.looks;
-        end
+        match outcome {
+            ReadOutcome::Complete => end,
+            // A stack with room for every frame is never full.
+            ReadOutcome::StackFull | ReadOutcome::Failed => None,
+        }
     }
 
     /// Reads the rest, in the largest stack if this one is full. Returns the place after it, or
@@ -56,7 +48,8 @@ impl Parser<'_, MIDDLE_STACK> {
     #[inline(always)]
     fn read_to_end(&mut self) -> Option<usize>
         requires valid { IsValid self.old }
-        requires inner { AllInner self.old.stack }
+        requires inner { AllInner self.old.stack.frames }
+        requires smaller { self.old.stack.room ≤ FULL_STACK }
         ensures value { result ≡ (trace_without_output self.old).place }
         ensures looks { self.new.looks ≤ self.old.looks + allowed_in (trace_without_output self.old).events }
         ensures grows { self.old.looks ≤ self.new.looks }
@@ -67,22 +60,21 @@ impl Parser<'_, MIDDLE_STACK> {
             ReadOutcome::Failed => None,
         }
     }
-}
 
-impl Parser<'_, SHORT_STACK> {
     /// Reads the rest in a larger stack, and if that is full too, in the largest. Returns the place
     /// after it, or `None` after an error.
     #[inline(never)]
     fn read_in_middle_stack(&mut self) -> Option<usize>
         requires valid { IsValid self.old }
-        requires inner { AllInner self.old.stack }
+        requires inner { AllInner self.old.stack.frames }
+        requires smaller { self.old.stack.room ≤ MIDDLE_STACK }
         ensures value { result ≡ (trace_without_output self.old).place }
         ensures looks { self.new.looks ≤ self.old.looks + allowed_in (trace_without_output self.old).events }
         ensures grows { self.old.looks ≤ self.new.looks }
         ensures parser { Recounted self.old self.new }
     {
-        let mut parser: Parser<MIDDLE_STACK> = self.without_frames();
-        parser.stack.append(&self.stack);
+        let mut memory = [UNUSED_FRAME; MIDDLE_STACK];
+        let mut parser = self.in_larger_stack(&mut memory);
         let end = parser.read_to_end();
         self.looks = parser.looks;
         end
@@ -90,11 +82,12 @@ impl Parser<'_, SHORT_STACK> {
 
     /// Reads the path at a place, with no frames on the stack. Returns the place after it, and then
     /// leaves no frames. Returns `None` after an error.
-    pub(crate) fn path_end(&mut self, place: usize) -> Option<usize>
-        requires empty { self.old.stack ≡ [] }
-        requires whole { self.old.source.fold_arguments ≡ false }
+    fn path_end(&mut self, place: usize) -> Option<usize>
+        requires empty { self.old.stack.frames ≡ [] }
+        requires smaller { self.old.stack.room ≤ MIDDLE_STACK }
+        requires whole { self.old.source.form.fold_arguments ≡ false }
         ensures value { result ≡ unit_end self.old.source.symbol.now a_path place 0 }
-        ensures empty { IsSome result → self.new.stack ≡ [] }
+        ensures empty { IsSome result → self.new.stack.frames ≡ [] }
         ensures grows { self.old.looks ≤ self.new.looks }
         ensures looks { self.new.looks ≤ self.old.looks + looks_in (read_at self.old.source.symbol.now false false
             a_path place 0 0 true) }
@@ -115,8 +108,9 @@ impl Parser<'_, SHORT_STACK> {
     /// Reads one path or two. Returns the place of the suffix after them, or `None` after an
     /// error.
     fn suffix(&mut self) -> Option<usize>
-        requires empty { self.old.stack ≡ [] }
-        requires whole { self.old.source.fold_arguments ≡ false }
+        requires empty { self.old.stack.frames ≡ [] }
+        requires smaller { self.old.stack.room ≤ MIDDLE_STACK }
+        requires whole { self.old.source.form.fold_arguments ≡ false }
         ensures value { result ≡ suffix_place self.old.source.symbol.now }
         ensures grows { self.old.looks ≤ self.new.looks }
         ensures looks { self.new.looks + suffix_looks self.old.source.symbol.now result ≤ self.old.looks +
@@ -144,10 +138,13 @@ pub fn suffix_at(symbol: &Symbol<'_>, looks: &mut Looks) -> Option<usize>
     // Without the hashes, the disambiguators of crates get no value.
     let source = Source {
         symbol,
-        include_hash: false,
-        fold_arguments: false,
+        form: Form {
+            include_hash: false,
+            fold_arguments: false,
+        },
     };
-    let mut parser: Parser<SHORT_STACK> = Parser::at_path(source, 0, looks);
+    let mut memory = [UNUSED_FRAME; SHORT_STACK];
+    let mut parser = Parser::at_path(source, 0, &mut memory, looks);
     let end = parser.suffix();
     *looks = parser.looks;
     end
@@ -164,11 +161,41 @@ pub fn begins_path(symbol: &Symbol<'_>, place: usize, looks: &mut Looks) -> bool
     }
 }
 
+/// Prints the first path, at which the parser is, and reads a second one. Returns the place of the
+/// suffix after them, or `None` as `print_to_suffix` does.
+#[inline(always)]
+fn printed_suffix<S: TextSink>(
+    parser: &mut Parser<'_, '_>,
+    out: &mut SizeLimitedFmtAdapter<'_, S>,
+) -> Option<usize>
+    requires ascii { IsAscii parser.old.source.symbol.now }
+    requires ready { Ready S.TextSink out.old }
+    requires path { parser.old.continuation ≡ Continuation.Path }
+    requires state { parser.old.state ≡ first_state 0 }
+    requires empty { parser.old.stack.frames ≡ [] }
+    requires smaller { parser.old.stack.room ≤ MIDDLE_STACK }
+    ensures value { IfSome result (λ place. Some place ≡ suffix_place parser.old.source.symbol.now) }
+    ensures prints { IfSome result (λ _. Prints S.TextSink out.old (path_texts parser.old.source.symbol.now
+        parser.old.source.form) (Ok tt) out.new) }
+    ensures grows { parser.old.looks ≤ parser.new.looks }
+    ensures most { parser.new.looks ≤ parser.old.looks + 4 * parser.old.fuel + 36 * (length
+        parser.old.source.symbol.now + 1) + 3 }
+{
+    let end = parser.print_to_place(out)?;
+    if begins_path(parser.source.symbol, end, &mut parser.looks) {
+        // Arguments are folded only when they are printed.
+        parser.source.form.fold_arguments = false;
+        return parser.path_end(end);
+    }
+    Some(end)
+}
+
 /// Prints the first path of a symbol, and reads a second one. Returns the place of the suffix after
 /// them.
 ///
-/// Returns `None` after a syntax error, if the limit or the sink rejects a piece, or if the first
-/// stack is too short. Then an unknown part of the path may be printed.
+/// Returns `None` after a syntax error, if the limit or the sink rejects a piece, if two stacks
+/// are too short, or if the path has too many steps for the length of the symbol. Then an unknown
+/// part of the path may be printed. In any case the looks are bounded by the length.
 pub fn print_to_suffix<S: TextSink>(
     source: Source<'_>,
     out: &mut SizeLimitedFmtAdapter<'_, S>,
@@ -178,14 +205,14 @@ pub fn print_to_suffix<S: TextSink>(
     requires ready { Ready S.TextSink out.old }
     ensures value { IfSome result (λ place. Some place ≡ suffix_place source.entry.symbol.now) }
     ensures prints { IfSome result (λ _. Prints S.TextSink out.old (path_texts source.entry.symbol.now
-        (form source.entry.include_hash source.entry.fold_arguments)) (Ok tt) out.new) }
+        source.entry.form) (Ok tt) out.new) }
+    ensures grows { looks.old ≤ looks.new }
+    ensures most { looks.new ≤ looks.old + 136 * (length source.entry.symbol.now + 1) }
 {
-    let mut parser: Parser<SHORT_STACK> = Parser::at_path(source, 0, looks);
-    let end = parser.print_to_place(out)?;
-    if begins_path(source.symbol, end, &mut parser.looks) {
-        // Arguments are folded only when they are printed.
-        parser.source.fold_arguments = false;
-        return parser.path_end(end);
-    }
-    Some(end)
+    let mut memory = [UNUSED_FRAME; SHORT_STACK];
+    let mut parser = Parser::at_path(source, 0, &mut memory, looks);
+    parser.fuel = fuel_of(source.symbol.len());
+    let end = printed_suffix(&mut parser, out);
+    *looks = parser.looks;
+    end
 }

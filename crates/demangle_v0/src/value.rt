@@ -2,12 +2,13 @@
 ghost use Rattle.std.specs.Prelude.{◌≡◌, ◌+◌, ◌*◌, ◌≤◌, IsAscii, length};
 ghost use Rattle.demangle_sink.specs.Cut.{kept};
 ghost use Rattle.demangle_sink.specs.Limit.{Prints, Ready};
-ghost use Rattle.demangle_v0_grammar.specs.Reading.{form, path_texts};
+ghost use Rattle.demangle_v0_grammar.specs.Reading.{path_texts};
 
-use crate::parser::frames::SHORT_STACK;
+use crate::parser::frames::{SHORT_STACK, UNUSED_FRAME};
 use crate::parser::machine::Parser;
 use demangle_sink::{SinkRefused, SizeLimitedFmtAdapter, TextSink};
 use demangle_symbol::cursor::{Looks, Symbol};
+use demangle_symbol::form::Form;
 use demangle_v0_tokens::source::Source;
 use std::marker::Model;
 
@@ -43,24 +44,21 @@ impl<'s> Demangle<'s> {
     pub fn write_to<S: TextSink>(
         &self,
         out: &mut SizeLimitedFmtAdapter<'_, S>,
-        include_hash: bool,
-        fold_arguments: bool,
+        form: Form,
         looks: &mut Looks,
     ) -> Result<(), SinkRefused>
         requires { Ready S.TextSink out.old }
-        ensures prints { Prints S.TextSink out.old (path_texts self.now (form include_hash
-            fold_arguments)) result out.new }
+        ensures prints { Prints S.TextSink out.old (path_texts self.now form) result out.new }
         ensures grows { looks.old ≤ looks.new }
-        ensures most { looks.new ≤ looks.old + 100000 * (kept (path_texts self.now (form include_hash
-            fold_arguments)) out.old.remaining + 1) * (length self.now + 1) }
+        ensures most { looks.new ≤ looks.old + 100000 * (kept (path_texts self.now form) out.old.remaining + 1) * (length self.now + 1) }
         ensures least { looks.old + 1 ≤ looks.new }
     {
         let source = Source {
             symbol: &self.inner,
-            include_hash,
-            fold_arguments,
+            form,
         };
-        let mut parser: Parser<SHORT_STACK> = Parser::at_path(source, 0, looks);
+        let mut memory = [UNUSED_FRAME; SHORT_STACK];
+        let mut parser = Parser::at_path(source, 0, &mut memory, looks);
         let printed = parser.print_path(out);
         *looks = parser.looks;
         printed

@@ -7,7 +7,7 @@ use Rattle.demangle_symbol.specs.Digits.{is_byte}
 use Rattle.demangle_symbol.specs.Primitives.{Name, Read, byte_at, namespace_at, integer_at, optional_at, backref_at, identifier_at, nibbles_at}
 use Rattle.demangle_v0_grammar.specs.Items.{Kind, a_path, a_trait_path, Items, done, print, print_plain, byte, namespace, integer, optional, identifier, nibbles, peek, next, if_ok, until_end, raise, unit, child, skip, folded, target, lifetime, binder, leave_open, dyn_trait, bindings}
 use Rattle.demangle_v0_grammar.specs.Table.{items}
-use Rattle.demangle_v0_grammar.specs.Reading.{is_next_byte, Place, Outcome, Level, Context, with_tree, followed_by, binding_separator, name_equals, primitive, parse, repetitions, primitive_outcome, peek_outcome, byte_choice, one_level_deeper, bound_by, unit_outcome, folded_by, target_of, target_read, lifetime_at, angle_if_open, level_of, levels, nowhere}
+use Rattle.demangle_v0_grammar.specs.Reading.{Form, is_next_byte, Place, Outcome, Level, Context, with_tree, followed_by, binding_separator, name_equals, primitive, parse, repetitions, primitive_outcome, peek_outcome, byte_choice, one_level_deeper, bound_by, unit_outcome, folded_by, target_of, target_read, lifetime_at, angle_if_open, level_of, levels, nowhere}
 use Rattle.demangle_v0_grammar.proofs.ItemBudgets.{start, rank, is_closed, Fits, first}
 use Rattle.demangle_v0_grammar.proofs.TableCost.{fits}
 use Rattle.demangle_v0_grammar.specs.Traces.{of, events, context_at}
@@ -109,14 +109,14 @@ unfolding levels
 levels_closed b folds zero = tt
 levels_closed b folds (suc left) = (level_closed b folds (levels b folds left) (levels_closed b folds left), levels_closed b folds left)
 
-pub unit_closed : (b : List ℕ) (folds out : Bool) (left m : ℕ) (kind : Kind) (value : Bool) (i : Place) → IsClosed kind → (unit_outcome (context_at b folds out left m) kind value i).is_bracket_open ≡ false
-unit_closed b folds out left m kind value None c = refl
-unit_closed b folds out left m kind value (Some i) c = level_closed b folds (levels b folds left) (levels_closed b folds left) out kind value m i (so (is_closed kind) c)
+pub unit_closed : (b : List ℕ) (form : Form) (out : Bool) (left m : ℕ) (kind : Kind) (value : Bool) (i : Place) → IsClosed kind → (unit_outcome (context_at b form out left m) kind value i).is_bracket_open ≡ false
+unit_closed b form out left m kind value None c = refl
+unit_closed b form out left m kind value (Some i) c = level_closed b form.fold_arguments (levels b form.fold_arguments left) (levels_closed b form.fold_arguments left) out kind value m i (so (is_closed kind) c)
 
 -- the trace of a nested production that is the last item
-pub last_child : (plain folds out : Bool) (b : List ℕ) (left m : ℕ) (kind : Kind) (value : Bool) (i : Place) → IsClosed kind → of plain out (parse (child kind value done) (context_at b folds out left m) i) ≡ of plain out (unit_outcome (context_at b folds out left m) kind value i)
+pub last_child : (form : Form) (out : Bool) (b : List ℕ) (left m : ℕ) (kind : Kind) (value : Bool) (i : Place) → IsClosed kind → of form out (parse (child kind value done) (context_at b form out left m) i) ≡ of form out (unit_outcome (context_at b form out left m) kind value i)
 unfolding parse
-last_child plain folds out b left m kind value i c =
-    let o = unit_outcome (context_at b folds out left m) kind value i in
-    ap (λ xs. record { events = xs; place = o.place; is_bracket_open = false }) (append-nil (events plain out o.tree))
-    ∙ ap (λ x. record { events = events plain out o.tree; place = o.place; is_bracket_open = x }) (sym (unit_closed b folds out left m kind value i c))
+last_child form out b left m kind value i c =
+    let o = unit_outcome (context_at b form out left m) kind value i in
+    ap (λ xs. record { events = xs; place = o.place; is_bracket_open = false }) (append-nil (events form.include_hash out o.tree))
+    ∙ ap (λ x. record { events = events form.include_hash out o.tree; place = o.place; is_bracket_open = x }) (sym (unit_closed b form out left m kind value i c))

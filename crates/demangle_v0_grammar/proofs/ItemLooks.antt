@@ -10,7 +10,8 @@ use Rattle.demangle_symbol.specs.Names.{name_pieces}
 use Rattle.demangle_v0_grammar.specs.Items.{Text, Kind, a_path, a_trait_path, Items, done, invalid, print, print_plain, byte, namespace, integer, optional, identifier, nibbles, peek, next, if_ok, until_end, raise, unit, child, skip, folded, target, lifetime, binder, leave_open, dyn_trait, bindings}
 use Rattle.demangle_v0_grammar.specs.Table.{items}
 use Rattle.demangle_v0_grammar.specs.LookBudget.{LookCost, IsWithinBudget}
-use Rattle.demangle_v0_grammar.specs.Reading.{Tree, nothing, piece, plain_piece, node, looked, looks_only, Place, Outcome, Level, Context, at_place, with_tree, primitive, followed_by, costs_of, parse, primitive_outcome, peek_outcome, byte_choice, one_level_deeper, max_depth, repetitions, angle_if_open, binding_separator, name_equals, bound_by, unit_outcome, after_unprinted, folded_by, target_of, target_read, lifetime_at, lifetime_named, letter_of, all_pieces, binder_at, level_of, levels, nowhere, read_at}
+use Rattle.demangle_v0_grammar.specs.Traces.{context_at}
+use Rattle.demangle_v0_grammar.specs.Reading.{Form, Tree, nothing, piece, plain_piece, node, looked, looks_only, Place, Outcome, Level, Context, at_place, with_tree, primitive, followed_by, costs_of, parse, primitive_outcome, peek_outcome, byte_choice, one_level_deeper, max_depth, repetitions, angle_if_open, binding_separator, name_equals, bound_by, unit_outcome, after_unprinted, folded_by, target_of, target_read, lifetime_at, lifetime_named, letter_of, all_pieces, binder_at, level_of, levels, nowhere, read_at}
 use Rattle.demangle_v0_grammar.proofs.BudgetRules.{IsWithinBudget-more, IsWithinBudget-append}
 use Rattle.demangle_symbol.proofs.Counts.{Placed, byte_placed, namespace_placed, integer_placed, optional_placed, backref_placed, identifier_placed, nibbles_placed}
 use Rattle.demangle_v0_grammar.proofs.SpelledIsParsed.{there_placed}
@@ -397,3 +398,18 @@ pub spelling_paid : (plain : Bool) (symbol : List ℕ) (folds : Bool) (kind : Ki
 unfolding read_at
 spelling_paid plain symbol folds kind i d m value l = let q : Deeper plain (length symbol) 0 false 0 (levels symbol folds (max_depth - d)) = levels_hidden plain symbol folds (max_depth - d) in
     level_paid plain 0 0 symbol folds (levels symbol folds (max_depth - d)) false (omega arith) q q kind value m i l
+
+-- a part that is not printed, where any number of depths is left
+
+pub hidden_paid : (plain : Bool) (p : Items) (c : Bool) (b e k : ℕ) → Fits c b e k true p → (symbol : List ℕ) (form : Form) (left m i : ℕ) → i ≤ length symbol →
+    LooksWithin plain (length symbol) 0 i (k + 0) e (parse p (context_at symbol form false left m) (Some i))
+hidden_paid plain p c b e k a symbol form left m i l =
+    let q : Deeper plain (length symbol) 0 false 0 (levels symbol form.fold_arguments left) = levels_hidden plain symbol form.fold_arguments left in
+    let w : LevelIsWithinBudget plain (length symbol) 0 0 false (level_of symbol form.fold_arguments (levels symbol form.fold_arguments left)) = level_paid plain 0 0 symbol form.fold_arguments (levels symbol form.fold_arguments left) false (omega arith) q q in
+    paid plain 0 0 p (context_at symbol form false left m) c b e k true a (record { enough = omega arith; here = w; unprinted = w; deeper = q }) i l
+
+pub hidden_unit_paid : (plain : Bool) (kind : Kind) (value : Bool) (symbol : List ℕ) (form : Form) (left m i : ℕ) → i ≤ length symbol →
+    LooksWithin plain (length symbol) 0 i (start kind + 0) 8 (unit_outcome (context_at symbol form false left m) kind value (Some i))
+hidden_unit_paid plain kind value symbol form left m i l =
+    let q : Deeper plain (length symbol) 0 false 0 (levels symbol form.fold_arguments left) = levels_hidden plain symbol form.fold_arguments left in
+    level_paid plain 0 0 symbol form.fold_arguments (levels symbol form.fold_arguments left) false (omega arith) q q kind value m i l

@@ -8,7 +8,7 @@ use Rattle.demangle_symbol.specs.Digits.{is_byte}
 use Rattle.demangle_symbol.specs.Primitives.{Read, byte_at, optional_at, identifier_at}
 use Rattle.demangle_v0_grammar.specs.Items.{Text, Kind, a_path, a_type, a_constant, a_pattern, a_trait_path, Items, done, print, byte, raise, identifier, child, dyn_trait}
 use Rattle.demangle_v0_grammar.specs.Table.{items, path, constant, pattern_of, binding_value, type_inside, argument, field, constant_inside, print_str, print_name}
-use Rattle.demangle_v0_grammar.specs.Reading.{looked, node, Place, Outcome, Level, Context, parse, repetitions, at_place, with_tree, followed_by, byte_choice, primitive_outcome, one_level_deeper, bound_by, level_of, levels, max_depth, nowhere}
+use Rattle.demangle_v0_grammar.specs.Reading.{Form, looked, node, Place, Outcome, Level, Context, parse, repetitions, at_place, with_tree, followed_by, byte_choice, primitive_outcome, one_level_deeper, bound_by, level_of, levels, max_depth, nowhere}
 use Rattle.demangle_symbol.proofs.Counts.{Placed, byte_placed, identifier_placed}
 use Rattle.demangle_v0_grammar.proofs.ItemBudgets.{Fits}
 use Rattle.demangle_v0_grammar.proofs.SpelledIsParsed.{there_placed}
@@ -63,71 +63,71 @@ no_unit b folds ls a_pattern pr v n i h = no_tag pattern_of (at b folds pr ls n)
 no_unit b folds ls a_trait_path pr v n i h = no_fork (is_byte b i (code "B")) _ _ i (no_byte b i (code "B") h) (no_fork (is_byte b i (code "I")) _ _ i (no_byte b i (code "I") h) (no_path (at b folds pr ls n) false i h))
 
 -- the elements of lists, with `left` depths left and `n` lifetimes in scope
-pub record Element (b : List ℕ) (folds out : Bool) (left n : ℕ) (p : Items) : Type 0 where
-  pub advances : Advances b (parse p (context_at b folds out left n))
-  pub beyond : (i : ℕ) → length b ≤ i → (parse p (context_at b folds out left n) (Some i)).place ≡ None
+pub record Element (b : List ℕ) (form : Form) (out : Bool) (left n : ℕ) (p : Items) : Type 0 where
+  pub advances : Advances b (parse p (context_at b form out left n))
+  pub beyond : (i : ℕ) → length b ≤ i → (parse p (context_at b form out left n) (Some i)).place ≡ None
 
-moving : (b : List ℕ) (folds out : Bool) (left n : ℕ) (p : Items) (c : Bool) (r e k : ℕ) (g : Bool) → Fits c r e k g p → k < e → left ≤ max_depth → Advances b (parse p (context_at b folds out left n))
-moving b folds out left n p c r e k g f m l =
-    advances p (context_at b folds out left n) (max_depth - left) c r e k g f m
-    (level_spelt b folds (max_depth - left) (levels b folds left) (levels_spelt b folds left (max_depth - left) (omega arith)))
-    (levels_spelt b folds left (max_depth - left) (omega arith))
+moving : (b : List ℕ) (form : Form) (out : Bool) (left n : ℕ) (p : Items) (c : Bool) (r e k : ℕ) (g : Bool) → Fits c r e k g p → k < e → left ≤ max_depth → Advances b (parse p (context_at b form out left n))
+moving b form out left n p c r e k g f m l =
+    advances p (context_at b form out left n) (max_depth - left) c r e k g f m
+    (level_spelt b form.fold_arguments (max_depth - left) (levels b form.fold_arguments left) (levels_spelt b form.fold_arguments left (max_depth - left) (omega arith)))
+    (levels_spelt b form.fold_arguments left (max_depth - left) (omega arith))
 
-module _ (b : List ℕ) (folds out : Bool) (left n : ℕ) (l : left ≤ max_depth) where
-  pub type_element : Element b folds out left n type_inside
+module _ (b : List ℕ) (form : Form) (out : Bool) (left n : ℕ) (l : left ≤ max_depth) where
+  pub type_element : Element b form out left n type_inside
   unfolding parse
-  type_element = record { advances = moving b folds out left n type_inside true 2 8 2 true (typed_cheap 8 2 (omega arith) (omega arith)) (omega arith) l; beyond = λ i h. no_unit b folds (levels b folds left) a_type out false n i h }
+  type_element = record { advances = moving b form out left n type_inside true 2 8 2 true (typed_cheap 8 2 (omega arith) (omega arith)) (omega arith) l; beyond = λ i h. no_unit b form.fold_arguments (levels b form.fold_arguments left) a_type out false n i h }
 
-  pub constant_element : Element b folds out left n constant_inside
+  pub constant_element : Element b form out left n constant_inside
   unfolding parse
-  constant_element = record { advances = moving b folds out left n constant_inside true 2 8 0 true (inside_cheap 8 0 (omega arith)) (omega arith) l; beyond = λ i h. no_unit b folds (levels b folds left) a_constant out true n i h }
+  constant_element = record { advances = moving b form out left n constant_inside true 2 8 0 true (inside_cheap 8 0 (omega arith)) (omega arith) l; beyond = λ i h. no_unit b form.fold_arguments (levels b form.fold_arguments left) a_constant out true n i h }
 
-  pub pattern_element : Element b folds out left n (child a_pattern false done)
+  pub pattern_element : Element b form out left n (child a_pattern false done)
   unfolding parse
-  pattern_element = record { advances = moving b folds out left n (child a_pattern false done) true 2 8 0 true (omega arith, refl, omega arith) (omega arith) l; beyond = λ i h. no_unit b folds (levels b folds left) a_pattern out false n i h }
+  pattern_element = record { advances = moving b form out left n (child a_pattern false done) true 2 8 0 true (omega arith, refl, omega arith) (omega arith) l; beyond = λ i h. no_unit b form.fold_arguments (levels b form.fold_arguments left) a_pattern out false n i h }
 
-  pub argument_element : Element b folds out left n argument
+  pub argument_element : Element b form out left n argument
   unfolding parse
   argument_element = record {
-    advances = moving b folds out left n argument true 1 7 6 true (argument_fits true 0) (omega arith) l;
+    advances = moving b form out left n argument true 1 7 6 true (argument_fits true 0) (omega arith) l;
     beyond = λ i h. no_fork (is_byte b i (code "L")) _ _ i (no_byte b i (code "L") h)
-        (no_fork (is_byte b i (code "K")) _ _ i (no_byte b i (code "K") h) (no_unit b folds (levels b folds left) a_type out false n i h));
+        (no_fork (is_byte b i (code "K")) _ _ i (no_byte b i (code "K") h) (no_unit b form.fold_arguments (levels b form.fold_arguments left) a_type out false n i h));
   }
 
-  pub field_element : Element b folds out left n field
+  pub field_element : Element b form out left n field
   unfolding parse
-  field_element = record { advances = moving b folds out left n field true 2 7 6 true field_cheap (omega arith) l; beyond = past }
+  field_element = record { advances = moving b form out left n field true 2 7 6 true field_cheap (omega arith) l; beyond = past }
     where
-      past : (i : ℕ) → length b ≤ i → (parse field (context_at b folds out left n) (Some i)).place ≡ None
+      past : (i : ℕ) → length b ≤ i → (parse field (context_at b form out left n) (Some i)).place ≡ None
       past i h =
-          let at = context_at b folds out left n in
+          let at = context_at b form out left n in
           let reads : ℕ → Place → Outcome = λ _. parse (identifier (λ a. print_name a (print_str ": " constant_inside))) at in
           subst (λ r. (primitive_outcome (length b) i reads r).place ≡ None) (sym (no_tagged 115 b i h))
           (no_primitive (length b) i (λ a. parse (print_name a (print_str ": " constant_inside)) at) (identifier_at b i) (placed_none i b (identifier_at b i) (identifier_placed b i) h))
 
-  pub dyn_trait_element : Element b folds out left n (dyn_trait binding_value)
+  pub dyn_trait_element : Element b form out left n (dyn_trait binding_value)
   unfolding parse
-  dyn_trait_element = record { advances = moving b folds out left n (dyn_trait binding_value) true 2 7 6 true trait_cheap (omega arith) l; beyond = past }
+  dyn_trait_element = record { advances = moving b form out left n (dyn_trait binding_value) true 2 7 6 true trait_cheap (omega arith) l; beyond = past }
     where
-      past : (i : ℕ) → length b ≤ i → (parse (dyn_trait binding_value) (context_at b folds out left n) (Some i)).place ≡ None
+      past : (i : ℕ) → length b ≤ i → (parse (dyn_trait binding_value) (context_at b form out left n) (Some i)).place ≡ None
       past i h =
-          let at = context_at b folds out left n in
-          let o = level_of b folds (levels b folds left) out a_trait_path false n i in
-          subst (λ x. (bound_by (suc (length b)) at (parse binding_value at) o.is_bracket_open x).place ≡ None) (sym (no_unit b folds (levels b folds left) a_trait_path out false n i h)) (bound_failed (suc (length b)) at (parse binding_value at) o.is_bracket_open)
+          let at = context_at b form out left n in
+          let o = level_of b form.fold_arguments (levels b form.fold_arguments left) out a_trait_path false n i in
+          subst (λ x. (bound_by (suc (length b)) at (parse binding_value at) o.is_bracket_open x).place ≡ None) (sym (no_unit b form.fold_arguments (levels b form.fold_arguments left) a_trait_path out false n i h)) (bound_failed (suc (length b)) at (parse binding_value at) o.is_bracket_open)
 
   -- the value of a binding
-  pub bound_keeps : Keeps b (parse binding_value (context_at b folds out left n))
-  bound_keeps i h = within_later b i (i + 1) (parse binding_value (context_at b folds out left n) (Some i)).place (omega arith) (moving b folds out left n binding_value true 1 7 5 true (argument_fits true 0).2 (omega arith) l i h)
+  pub bound_keeps : Keeps b (parse binding_value (context_at b form out left n))
+  bound_keeps i h = within_later b i (i + 1) (parse binding_value (context_at b form out left n) (Some i)).place (omega arith) (moving b form out left n binding_value true 1 7 5 true (argument_fits true 0).2 (omega arith) l i h)
 
 -- an iteration for an element after a text, and all iterations again
-pub element_on : (b : List ℕ) (folds out : Bool) (left n : ℕ) (p : Items) (text : Text) (i : ℕ) → Element b folds out left n p → is_byte b i (code "E") ≡ false →
-    let f : Place → Outcome = parse (print text p) (context_at b folds out left n) in
+pub element_on : (b : List ℕ) (form : Form) (out : Bool) (left n : ℕ) (p : Items) (text : Text) (i : ℕ) → Element b form out left n p → is_byte b i (code "E") ≡ false →
+    let f : Place → Outcome = parse (print text p) (context_at b form out left n) in
     all_repetitions b f (Some i) ≡ with_tree (looked 1) (followed_by (f (Some i)) (all_repetitions b f))
 unfolding parse repetitions
-element_on b folds out left n p text i el e = go (nat_le i (length b)) refl
+element_on b form out left n p text i el e = go (nat_le i (length b)) refl
   where
     f : Place → Outcome
-    f = parse (print text p) (context_at b folds out left n)
+    f = parse (print text p) (context_at b form out left n)
 
     go : (c : Bool) → nat_le i (length b) ≡ c → all_repetitions b f (Some i) ≡ with_tree (looked 1) (followed_by (f (Some i)) (all_repetitions b f))
     go true c = repetitions_on b f i el.advances (leb-true _ _ c) e

@@ -1,16 +1,17 @@
 -- The law on looks.
 use Rattle.std.specs.Prelude.{ℕ, suc, ◌≤◌, ◌*◌}
-use Rattle.std.proofs.Common.{◌≡◌, Bool, true, false, cond, List, [], ◌∷◌, length, take, Some, None, ◌+◌, ◌++◌, ◌-◌, refl, arith}
+use Rattle.std.proofs.Common.{◌≡◌, Bool, true, false, cond, List, [], ◌∷◌, length, take, Some, None, ◌+◌, ◌++◌, ◌-◌, refl, sym, subst, arith}
 use Rattle.demangle_v0_grammar.specs.Items.{Items, Kind, a_path}
 use Rattle.demangle_v0_grammar.specs.LookBudget.{LookCost, bytes_of, looks_of, IsWithinBudget}
 use Rattle.demangle_sink.specs.Cut.{size}
 use Rattle.demangle_sink.proofs.CutLemmas.{size-append}
 use Rattle.demangle_v0_grammar.specs.Reading.{Form, Outcome}
-use Rattle.demangle_v0_grammar.specs.Reading.{Tree, nothing, piece, plain_piece, node, looked, unprinted, Place, Context, max_depth, parse, costs_of, looks, pieces, looks_only, starts_second_path, read_at, path_texts}
+use Rattle.demangle_v0_grammar.specs.Reading.{Tree, nothing, piece, plain_piece, node, looked, unprinted, Place, Context, max_depth, parse, costs_of, looks, pieces, looks_only, unit_outcome, starts_second_path, unit_end, read_at, path_texts}
+use Rattle.demangle_v0_grammar.specs.Traces.{context_at}
 use Rattle.demangle_v0_grammar.specs.ValidationLooks.{looks_in, suffix_looks, second_looks, accepting_looks}
 use Rattle.demangle_v0_grammar.proofs.BudgetRules.{IsWithinBudget-bound, IsWithinBudget-whole}
-use Rattle.demangle_v0_grammar.proofs.ItemBudgets.{Ends, Idle, start, idle}
-use Rattle.demangle_v0_grammar.proofs.ItemLooks.{ends_pay, money, read_paid, spelling_paid, small}
+use Rattle.demangle_v0_grammar.proofs.ItemBudgets.{Ends, Fits, Idle, start, idle}
+use Rattle.demangle_v0_grammar.proofs.ItemLooks.{ends_pay, hidden_paid, hidden_unit_paid, money, read_paid, spelling_paid, small}
 
 abbrev pub path_costs : List ℕ → Form → List LookCost
 path_costs symbol form = costs_of form.include_hash (read_at symbol form.fold_arguments true a_path 0 0 0 true).tree
@@ -44,6 +45,25 @@ costs symbol i l = go (read_at symbol false false a_path i 0 0 true).tree (read_
     go t None h = let w : looks_of (costs_of true t) + 0 ≤ 32 * (length symbol + 1 - i) + (0 + 0) + 0 * bytes_of (costs_of true t) = IsWithinBudget-whole 0 (32 * (length symbol + 1 - i) + (0 + 0)) 0 (costs_of true t) h in omega (arith, w)
     go t (Some j) h = let w : looks_of (costs_of true t) + 8 ≤ 32 * (j - i) + (0 + 0) + 0 * bytes_of (costs_of true t) = IsWithinBudget-whole 0 (32 * (j - i) + (0 + 0)) 8 (costs_of true t) h.2 in (h.0, h.1, omega (arith, w))
 
+-- the looks of a part that is not printed, by the place where it ends; at most `more` beyond what its bytes pay for
+abbrev pub HiddenCosts : ℕ → ℕ → ℕ → ℕ → Place → Type 0
+HiddenCosts n i more c None = c ≤ 32 * (n + 1 - i) + more
+HiddenCosts n i more c (Some j) = (i ≤ j) × (j ≤ n) × (c ≤ 32 * (j - i) + more)
+
+hidden : (plain : Bool) (n i from more to : ℕ) → from ≤ more → (t : Tree) (x : Place) → Ends n 0 i from to (costs_of plain t) x → HiddenCosts n i more (looks_of (costs_of plain t)) x
+hidden plain n i from more to l t None h = let w : looks_of (costs_of plain t) + 0 ≤ 32 * (n + 1 - i) + from + 0 * bytes_of (costs_of plain t) = IsWithinBudget-whole 0 (32 * (n + 1 - i) + from) 0 (costs_of plain t) h in omega (arith, w, l)
+hidden plain n i from more to l t (Some j) h = let w : looks_of (costs_of plain t) + to ≤ 32 * (j - i) + from + 0 * bytes_of (costs_of plain t) = IsWithinBudget-whole 0 (32 * (j - i) + from) to (costs_of plain t) h.2 in (h.0, h.1, omega (arith, w, l))
+
+pub hidden_path_costs : (symbol : List ℕ) (form : Form) (left m i : ℕ) → i ≤ length symbol → let o = unit_outcome (context_at symbol form false left m) a_path false (Some i) in HiddenCosts (length symbol) i 7 (looks_of (costs_of form.include_hash o.tree)) o.place
+hidden_path_costs symbol form left m i l =
+    let o : Outcome = unit_outcome (context_at symbol form false left m) a_path false (Some i) in
+    hidden form.include_hash (length symbol) i (start a_path + 0) 7 8 (omega (arith, small a_path)) o.tree o.place (hidden_unit_paid form.include_hash a_path false symbol form left m i l)
+
+pub hidden_costs : (p : Items) (c : Bool) → Fits c 2 8 7 true p → (symbol : List ℕ) (form : Form) (left m i : ℕ) → i ≤ length symbol → let o = parse p (context_at symbol form false left m) (Some i) in HiddenCosts (length symbol) i 7 (looks_of (costs_of form.include_hash o.tree)) o.place
+hidden_costs p c a symbol form left m i l =
+    let o : Outcome = parse p (context_at symbol form false left m) (Some i) in
+    hidden form.include_hash (length symbol) i (7 + 0) 7 8 (omega arith) o.tree o.place (hidden_paid form.include_hash p c 2 8 7 a symbol form left m i l)
+
 -- with the suffix
 with_suffix : (symbol : List ℕ) (j c : ℕ) (x : Place) → j ≤ length symbol → Costs (length symbol) j c x → c + suffix_looks symbol x ≤ 32 * (length symbol + 1 - j)
 with_suffix symbol j c None l h = omega (arith, h)
@@ -56,6 +76,18 @@ second_costs symbol j l = go (starts_second_path symbol j)
     go true = let w : looks_in (read_at symbol false false a_path j 0 0 true) + suffix_looks symbol (read_at symbol false false a_path j 0 0 true).place ≤ 32 * (length symbol + 1 - j) =
         with_suffix symbol j (looks_in (read_at symbol false false a_path j 0 0 true)) (read_at symbol false false a_path j 0 0 true).place l (costs symbol j l) in omega (arith, w)
     go false = omega (arith, l)
+
+-- a second path
+pub second_path_costs : (symbol : List ℕ) (j : ℕ) → Some j ≡ unit_end symbol a_path 0 0 → looks_in (read_at symbol false false a_path j 0 0 true) ≤ 32 * (length symbol + 1)
+unfolding unit_end
+second_path_costs symbol j e =
+    let first : Costs (length symbol) 0 (looks_in (read_at symbol false false a_path 0 0 0 true)) (Some j) =
+    subst (Costs (length symbol) 0 (looks_in (read_at symbol false false a_path 0 0 0 true))) (sym e) (costs symbol 0 (omega arith)) in
+    all (read_at symbol false false a_path j 0 0 true).place first.1 (costs symbol j first.1)
+  where
+    all : {c : ℕ} (x : Place) → j ≤ length symbol → Costs (length symbol) j c x → c ≤ 32 * (length symbol + 1)
+    all None l h = omega (arith, h)
+    all (Some k) l h = omega (arith, h.0, h.1, h.2)
 
 both_cost : (symbol : List ℕ) (c : ℕ) (x : Place) → Costs (length symbol) 0 c x → c + second_looks symbol x ≤ 32 * (length symbol + 1)
 both_cost symbol c None h = omega (arith, h)

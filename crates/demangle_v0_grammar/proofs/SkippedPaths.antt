@@ -4,7 +4,7 @@ use Rattle.std.proofs.Common.{◌≡◌, Bool, false, List, [], ◌∷◌, ◌++
 use Rattle.demangle_v0_grammar.specs.LookTotals.{total}
 use Rattle.demangle_v0_grammar.specs.Traces.{Event, prints_text, allows, events, texts_in, looks_then, Trace, of, and_then, with_looks, context_at}
 use Rattle.demangle_v0_grammar.specs.Items.{a_path, Items, skip}
-use Rattle.demangle_v0_grammar.specs.Reading.{Place, Outcome, Context, parse, level_of, levels}
+use Rattle.demangle_v0_grammar.specs.Reading.{Form, Place, Outcome, Context, parse, level_of, levels}
 use Rattle.demangle_v0_grammar.specs.LookTotals.{allowed_in}
 use Rattle.demangle_v0_grammar.proofs.PrintingSteps.{quiet_events}
 use Rattle.demangle_v0_grammar.proofs.UnprintedTraces.{silent_unit}
@@ -29,22 +29,22 @@ only_allowed (prints_text t ∷ xs) ys e = absurd (some_none t (texts_in xs) e)
 only_allowed (allows k ∷ xs) ys e = ap (λ zs. allows k ∷ zs) (only_allowed xs ys e)
 
 -- a parse that is not printed allows looks, and nothing more
-pub silent_allowed : (plain : Bool) (o : Outcome) (k : Place → Bool → Trace) → and_then (of plain false o) k ≡ with_looks (allowances (of plain false o).events) (k o.place o.is_bracket_open)
-silent_allowed plain o k = let g = k o.place o.is_bracket_open in ap (λ xs. record { events = xs; place = g.place; is_bracket_open = g.is_bracket_open }) (only_allowed (events plain false o.tree) g.events (quiet_events plain o.tree))
+pub silent_allowed : (form : Form) (o : Outcome) (k : Place → Bool → Trace) → and_then (of form false o) k ≡ with_looks (allowances (of form false o).events) (k o.place o.is_bracket_open)
+silent_allowed form o k = let g = k o.place o.is_bracket_open in ap (λ xs. record { events = xs; place = g.place; is_bracket_open = g.is_bracket_open }) (only_allowed (events form.include_hash false o.tree) g.events (quiet_events form.include_hash o.tree))
 
 -- a path that is not printed, with `left` depths left
-abbrev pub path_trace : Bool → List ℕ → Bool → ℕ → Bool → ℕ → ℕ → Trace
-path_trace plain b folds left value m i = of plain false (level_of b folds (levels b folds left) false a_path value m i)
+abbrev pub path_trace : Form → List ℕ → ℕ → Bool → ℕ → ℕ → Trace
+path_trace form b left value m i = of form false (level_of b form.fold_arguments (levels b form.fold_arguments left) false a_path value m i)
 
 -- A skipped path allows the looks of its parse, and the rest starts where the parse ends. This holds for any number of
 -- lifetimes in scope and for any value position.
-pub skip_reads : (plain out : Bool) (b : List ℕ) (folds : Bool) (left n : ℕ) (value : Bool) (m : ℕ) (p : Items) (i : ℕ)
-    → of plain out (parse (skip p) (context_at b folds out left n) (Some i)) ≡ with_looks (allowances (path_trace plain b folds left value m i).events) (of plain out (parse p (context_at b folds out left n) (path_trace plain b folds left value m i).place))
+pub skip_reads : (form : Form) (out : Bool) (b : List ℕ) (left n : ℕ) (value : Bool) (m : ℕ) (p : Items) (i : ℕ)
+    → of form out (parse (skip p) (context_at b form out left n) (Some i)) ≡ with_looks (allowances (path_trace form b left value m i).events) (of form out (parse p (context_at b form out left n) (path_trace form b left value m i).place))
 unfolding parse
-skip_reads plain out b folds left n value m p i =
-    ap (λ (h : Trace). and_then h (λ j _. of plain out (parse p (context_at b folds out left n) j))) (silent_unit plain b folds left a_path false value n m i)
-    ∙ silent_allowed plain (level_of b folds (levels b folds left) false a_path value m i) (λ j _. of plain out (parse p (context_at b folds out left n) j))
+skip_reads form out b left n value m p i =
+    ap (λ (h : Trace). and_then h (λ j _. of form out (parse p (context_at b form out left n) j))) (silent_unit form b form.fold_arguments left a_path false value n m i)
+    ∙ silent_allowed form (level_of b form.fold_arguments (levels b form.fold_arguments left) false a_path value m i) (λ j _. of form out (parse p (context_at b form out left n) j))
 
-pub skip_failed : (plain out : Bool) (p : Items) (s : Context) → of plain out (parse (skip p) s None) ≡ of plain out (parse p s None)
+pub skip_failed : (form : Form) (out : Bool) (p : Items) (s : Context) → of form out (parse (skip p) s None) ≡ of form out (parse p s None)
 unfolding parse
-skip_failed plain out p s = refl
+skip_failed form out p s = refl

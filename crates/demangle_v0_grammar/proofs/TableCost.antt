@@ -108,6 +108,13 @@ tuple_cheap e k el p l x y =
 pub argument_fits : (c : Bool) (r : ℕ) → Fits c (suc r) 7 6 true argument
 argument_fits c r = (omega arith, (λ k. omega arith), (omega arith, (omega arith, refl, omega arith), (omega arith, refl, omega arith)))
 
+-- the generic arguments of a path, and of a dyn trait path
+pub arguments_fit : Fits true 2 8 7 true (arguments (print_str ">" done))
+arguments_fit = (8, list_fits true 2 8 7 ", " argument done refl (omega arith) (argument_fits true 1) (omega arith), omega arith)
+
+pub trait_arguments_fit : Fits false 2 8 7 true (arguments (leave_open done))
+trait_arguments_fit = (8, list_fits false 2 8 7 ", " argument done refl (omega arith) (argument_fits false 1) (omega arith), (refl, omega arith))
+
 pub typed_cheap : (e k : ℕ) → e ≤ 8 → 2 ≤ k → Cheap e k true type_inside
 typed_cheap e k l m = (m, refl, l)
 

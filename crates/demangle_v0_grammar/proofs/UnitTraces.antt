@@ -4,7 +4,7 @@ use Rattle.std.proofs.Common.{◌≡◌, Bool, true, false, List, length, Some, 
 use Rattle.demangle_symbol.specs.Primitives.{byte_at, namespace_at, integer_at, optional_at, backref_at, identifier_at, nibbles_at}
 use Rattle.demangle_v0_grammar.specs.Items.{Kind, a_path, a_trait_path, Items, print, print_plain, byte, namespace, integer, optional, identifier, nibbles, peek, next, if_ok, until_end, raise, unit, child, skip, folded, target, lifetime, binder, leave_open, dyn_trait, bindings}
 use Rattle.demangle_v0_grammar.specs.Table.{items}
-use Rattle.demangle_v0_grammar.specs.Reading.{Tree, unprinted, is_next_byte, binder_at, node, piece, plain_piece, looked, too_deep, after_error, Place, Outcome, Level, failed_with, with_tree, unit_outcome, parse, folded_by, lifetime_at, level_of, levels, nowhere}
+use Rattle.demangle_v0_grammar.specs.Reading.{Form, Tree, unprinted, is_next_byte, binder_at, node, piece, plain_piece, looked, too_deep, after_error, Place, Outcome, Level, failed_with, with_tree, unit_outcome, parse, folded_by, lifetime_at, level_of, levels, nowhere}
 use Rattle.demangle_v0_grammar.specs.Traces.{context_at}
 use Rattle.demangle_v0_grammar.proofs.ItemBudgets.{rank, is_below, Fits, first}
 use Rattle.demangle_v0_grammar.proofs.UnprintedTraces.{at, worded, peeked, forked, turned}
@@ -73,16 +73,16 @@ unfolding level_of
 level_same b folds ls kind pr k v m i h = same_here b folds nowhere (inner b folds ls) ls (rank k) (one k) (λ _ l _ _ _ q. absurd (lowest kind k l h q)) pr (items k v) _ _ _ _ (fits k v) m (Some i)
 
 -- a production parses its items
-pub begins : (b : List ℕ) (folds out : Bool) (left n : ℕ) (kind : Kind) (value : Bool) (i : ℕ) → unit_outcome (context_at b folds out left n) kind value (Some i) ≡ parse (items kind value) (context_at b folds out left n) (Some i)
+pub begins : (b : List ℕ) (form : Form) (out : Bool) (left n : ℕ) (kind : Kind) (value : Bool) (i : ℕ) → unit_outcome (context_at b form out left n) kind value (Some i) ≡ parse (items kind value) (context_at b form out left n) (Some i)
 unfolding level_of
-begins b folds out left n kind value i = same_here b folds (inner b folds (levels b folds left)) (level_of b folds (levels b folds left)) (levels b folds left) (rank kind) (one kind) (level_same b folds (levels b folds left) kind) out (items kind value) _ _ _ _ (fits kind value) n (Some i)
+begins b form out left n kind value i = same_here b form.fold_arguments (inner b form.fold_arguments (levels b form.fold_arguments left)) (level_of b form.fold_arguments (levels b form.fold_arguments left)) (levels b form.fold_arguments left) (rank kind) (one kind) (level_same b form.fold_arguments (levels b form.fold_arguments left) kind) out (items kind value) _ _ _ _ (fits kind value) n (Some i)
 
 -- one depth deeper, if there is one
-pub raise_deep : (b : List ℕ) (folds out : Bool) (left n : ℕ) (p : Items) (i : Place) → left ≡ 0 → parse (raise p) (context_at b folds out left n) i ≡ failed_with too_deep
+pub raise_deep : (b : List ℕ) (form : Form) (out : Bool) (left n : ℕ) (p : Items) (i : Place) → left ≡ 0 → parse (raise p) (context_at b form out left n) i ≡ failed_with too_deep
 unfolding parse levels
-raise_deep b folds out left n p i e = rw e refl
+raise_deep b form out left n p i e = rw e refl
 
-pub raise_on : (b : List ℕ) (folds out : Bool) (left n : ℕ) (p : Items) (i : Place) → 0 < left → parse (raise p) (context_at b folds out left n) i ≡ parse p (context_at b folds out (left - 1) n) i
+pub raise_on : (b : List ℕ) (form : Form) (out : Bool) (left n : ℕ) (p : Items) (i : Place) → 0 < left → parse (raise p) (context_at b form out left n) i ≡ parse p (context_at b form out (left - 1) n) i
 unfolding parse levels
-raise_on b folds out zero n p i l = absurd (omega (arith, l))
-raise_on b folds out (suc left) n p i l = rw sub-one refl
+raise_on b form out zero n p i l = absurd (omega (arith, l))
+raise_on b form out (suc left) n p i l = rw sub-one refl

@@ -8,7 +8,7 @@ use Rattle.demangle_symbol.specs.Primitives.{Name, Read, byte_at, namespace_at, 
 use Rattle.demangle_symbol.specs.Names.{name_pieces}
 use Rattle.demangle_v0_grammar.specs.Items.{Text, Kind, a_path, a_constant, a_trait_path, Items, done, invalid, print, print_plain, byte, namespace, integer, optional, identifier, nibbles, peek, next, if_ok, until_end, raise, unit, child, skip, folded, target, lifetime, binder, leave_open, dyn_trait, bindings}
 use Rattle.demangle_v0_grammar.specs.Table.{items, is_among, row_of, path, path_rows, constant, constant_rows, variant, variant_rows, print_str}
-use Rattle.demangle_v0_grammar.specs.Reading.{looked}
+use Rattle.demangle_v0_grammar.specs.Reading.{Form, looked}
 use Rattle.demangle_v0_grammar.specs.Reading.{Tree, piece, Place, Outcome, Level, Context, at_place, failed_with, after_error, parse, repetitions, primitive_outcome, bound_by, followed_by, followed_open, with_tree, binding_separator, name_equals, angle_if_open, all_pieces, primitive, byte_choice, peek_outcome, level_of, levels, nowhere}
 use Rattle.demangle_v0_grammar.specs.Traces.{Event, text_if, Trace, of, events, and_then, with_looks}
 
@@ -77,42 +77,42 @@ mute (dyn_trait p) = dyn_trait (mute p)
 mute (bindings o p) = bindings o (mute p)
 
 -- both have the same trace if they are not printed
-abbrev Alike : Bool → Outcome → Outcome → Type 0
-Alike plain o o' = of plain false o ≡ of plain false o'
+abbrev Alike : Form → Outcome → Outcome → Type 0
+Alike form o o' = of form false o ≡ of form false o'
 
 -- a level whose parses have the same trace if they are not printed
-abbrev pub Uniform : Bool → Level → Type 0
-Uniform plain l = (kind : Kind) (v w : Bool) (m n i : ℕ) → of plain false (l false kind v m i) ≡ of plain false (l false kind w n i)
+abbrev pub Uniform : Form → Level → Type 0
+Uniform form l = (kind : Kind) (v w : Bool) (m n i : ℕ) → of form false (l false kind v m i) ≡ of form false (l false kind w n i)
 
-abbrev pub AllUniform : Bool → List Level → Type 0
-AllUniform plain [] = Unit {0}
-AllUniform plain (l ∷ ls) = Uniform plain l × AllUniform plain ls
+abbrev pub AllUniform : Form → List Level → Type 0
+AllUniform form [] = Unit {0}
+AllUniform form (l ∷ ls) = Uniform form l × AllUniform form ls
 
 said_plain : (plain : Bool) (t : Text) (xs : List Event) → text_if (plain && false) t xs ≡ xs
 said_plain true t xs = refl
 said_plain false t xs = refl
 
-module _ (plain : Bool) where
-  alike_followed : (o o' : Outcome) (f g : Place → Outcome) → Alike plain o o' → ((x : Place) → Alike plain (f x) (g x)) → Alike plain (followed_by o f) (followed_by o' g)
+module _ (form : Form) where
+  alike_followed : (o o' : Outcome) (f g : Place → Outcome) → Alike form o o' → ((x : Place) → Alike form (f x) (g x)) → Alike form (followed_by o f) (followed_by o' g)
   alike_followed o o' f g e h =
-      ap (λ (z : Trace). and_then z (λ x _. of plain false (f x))) e
-      ∙ ap (λ (z : Trace). and_then (of plain false o') (λ _ _. z)) (h o'.place)
+      ap (λ (z : Trace). and_then z (λ x _. of form false (f x))) e
+      ∙ ap (λ (z : Trace). and_then (of form false o') (λ _ _. z)) (h o'.place)
 
-  look : (k : ℕ) (o o' : Outcome) → Alike plain o o' → Alike plain (with_tree (looked k) o) (with_tree (looked k) o')
+  look : (k : ℕ) (o o' : Outcome) → Alike form o o' → Alike form (with_tree (looked k) o) (with_tree (looked k) o')
   look k o o' e = ap (with_looks (k ∷ [])) e
 
-  pieces_quiet : (ts : List Text) (t : Tree) → events plain false (all_pieces ts t) ≡ events plain false t
+  pieces_quiet : (ts : List Text) (t : Tree) → events form.include_hash false (all_pieces ts t) ≡ events form.include_hash false t
   pieces_quiet [] t = refl
   pieces_quiet (x ∷ ts) t = pieces_quiet ts t
 
-  alike_named : (a : Name) (o : Outcome) → Alike plain (with_tree (name_equals a) o) o
+  alike_named : (a : Name) (o : Outcome) → Alike form (with_tree (name_equals a) o) o
   alike_named a o = ap (λ xs. record { events = xs; place = o.place; is_bracket_open = o.is_bracket_open }) (pieces_quiet (name_pieces a) (piece (codes " = ") o.tree))
 
-  alike_opened : (o : Bool) (x : Outcome) → Alike plain (with_tree (binding_separator o) x) x
+  alike_opened : (o : Bool) (x : Outcome) → Alike form (with_tree (binding_separator o) x) x
   alike_opened true x = refl
   alike_opened false x = refl
 
-  alike_bound : (k : ℕ) (b : List ℕ) (folds : Bool) (here : Level) (deeper : List Level) (m n : ℕ) (f g : Place → Outcome) → ((x : Place) → Alike plain (f x) (g x)) → (o : Bool) (i : Place) → Alike plain (bound_by k (silent b folds here deeper m) f o i) (bound_by k (silent b folds here deeper n) g o i)
+  alike_bound : (k : ℕ) (b : List ℕ) (folds : Bool) (here : Level) (deeper : List Level) (m n : ℕ) (f g : Place → Outcome) → ((x : Place) → Alike form (f x) (g x)) → (o : Bool) (i : Place) → Alike form (bound_by k (silent b folds here deeper m) f o i) (bound_by k (silent b folds here deeper n) g o i)
   unfolding bound_by
   alike_bound k b folds here deeper m n f g h o None = refl
   alike_bound zero b folds here deeper m n f g h o (Some i) = refl
@@ -121,39 +121,39 @@ module _ (plain : Bool) where
       let t = silent b folds here deeper n in
       let one : Name → Place → Outcome = λ a x. with_tree (name_equals a) (followed_by (f x) (bound_by k s f true)) in
       let other : Name → Place → Outcome = λ a x. with_tree (name_equals a) (followed_by (g x) (bound_by k t g true)) in
-      forked (of plain false) look (is_byte b i (code "p"))
+      forked (of form false) look (is_byte b i (code "p"))
       (λ j. with_tree (binding_separator o) (primitive s j identifier_at one)) (λ j. with_tree (binding_separator o) (primitive t j identifier_at other)) (angle_if_open o) (angle_if_open o) (Some i)
       (λ j. alike_opened o (primitive s j identifier_at one)
-      ∙ (worded (of plain false) look b folds false here here deeper m n identifier_at one other
+      ∙ (worded (of form false) look b folds false here here deeper m n identifier_at one other
       (λ a x. alike_named a (followed_by (f x) (bound_by k s f true))
       ∙ (alike_followed (f x) (g x) (bound_by k s f true) (bound_by k t g true) (h x) (alike_bound k b folds here deeper m n f g h true)
       ∙ sym (alike_named a (followed_by (g x) (bound_by k t g true))))) j
       ∙ sym (alike_opened o (primitive t j identifier_at other)))) (λ x. refl)
 
-  alike_open : (k : ℕ) (b : List ℕ) (folds : Bool) (here : Level) (deeper : List Level) (m n : ℕ) (f g : Place → Outcome) → ((x : Place) → Alike plain (f x) (g x)) → (o o' : Outcome) → Alike plain o o'
-      → Alike plain (followed_open o (bound_by k (silent b folds here deeper m) f)) (followed_open o' (bound_by k (silent b folds here deeper n) g))
+  alike_open : (k : ℕ) (b : List ℕ) (folds : Bool) (here : Level) (deeper : List Level) (m n : ℕ) (f g : Place → Outcome) → ((x : Place) → Alike form (f x) (g x)) → (o o' : Outcome) → Alike form o o'
+      → Alike form (followed_open o (bound_by k (silent b folds here deeper m) f)) (followed_open o' (bound_by k (silent b folds here deeper n) g))
   alike_open k b folds here deeper m n f g h o o' e =
-      ap (λ (z : Trace). and_then z (λ x p. of plain false (bound_by k (silent b folds here deeper m) f p x))) e
-      ∙ ap (λ (z : Trace). and_then (of plain false o') (λ _ _. z)) (alike_bound k b folds here deeper m n f g h o'.is_bracket_open o'.place)
+      ap (λ (z : Trace). and_then z (λ x p. of form false (bound_by k (silent b folds here deeper m) f p x))) e
+      ∙ ap (λ (z : Trace). and_then (of form false o') (λ _ _. z)) (alike_bound k b folds here deeper m n f g h o'.is_bracket_open o'.place)
 
-  muted : (p : Items) (b : List ℕ) (folds : Bool) (here : Level) (deeper : List Level) (m n : ℕ) → Uniform plain here → AllUniform plain deeper → (i : Place) → Alike plain (parse p (silent b folds here deeper m) i) (parse (mute p) (silent b folds here deeper n) i)
+  muted : (p : Items) (b : List ℕ) (folds : Bool) (here : Level) (deeper : List Level) (m n : ℕ) → Uniform form here → AllUniform form deeper → (i : Place) → Alike form (parse p (silent b folds here deeper m) i) (parse (mute p) (silent b folds here deeper n) i)
   unfolding parse
   muted (print t p) b folds here deeper m n h a i = muted p b folds here deeper m n h a i
-  muted (print_plain t p) b folds here deeper m n h a i = let o = parse p (silent b folds here deeper m) i in ap (λ xs. record { events = xs; place = o.place; is_bracket_open = o.is_bracket_open }) (said_plain plain t (events plain false o.tree)) ∙ muted p b folds here deeper m n h a i
-  muted (byte f) b folds here deeper m n h a i = worded (of plain false) look b folds false here here deeper m n byte_at (λ v. parse (f v) (silent b folds here deeper m)) (λ v. parse (mute (f v)) (silent b folds here deeper n)) (λ v. muted (f v) b folds here deeper m n h a) i
-  muted (namespace f) b folds here deeper m n h a i = worded (of plain false) look b folds false here here deeper m n namespace_at (λ v. parse (f v) (silent b folds here deeper m)) (λ v. parse (mute (f v)) (silent b folds here deeper n)) (λ v. muted (f v) b folds here deeper m n h a) i
-  muted (integer f) b folds here deeper m n h a i = worded (of plain false) look b folds false here here deeper m n integer_at (λ v. parse (f v) (silent b folds here deeper m)) (λ v. parse (mute (f v)) (silent b folds here deeper n)) (λ v. muted (f v) b folds here deeper m n h a) i
-  muted (optional tag f) b folds here deeper m n h a i = worded (of plain false) look b folds false here here deeper m n (optional_at tag) (λ v. parse (f v) (silent b folds here deeper m)) (λ v. parse (mute (f v)) (silent b folds here deeper n)) (λ v. muted (f v) b folds here deeper m n h a) i
-  muted (identifier f) b folds here deeper m n h a i = worded (of plain false) look b folds false here here deeper m n identifier_at (λ v. parse (f v) (silent b folds here deeper m)) (λ v. parse (mute (f v)) (silent b folds here deeper n)) (λ v. muted (f v) b folds here deeper m n h a) i
-  muted (nibbles f) b folds here deeper m n h a i = worded (of plain false) look b folds false here here deeper m n nibbles_at (λ v. parse (f v) (silent b folds here deeper m)) (λ v. parse (mute (f v)) (silent b folds here deeper n)) (λ v. muted (f v) b folds here deeper m n h a) i
-  muted (peek f) b folds here deeper m n h a (Some i) = peeked (of plain false) look (λ v. parse (f v) (silent b folds here deeper m) (Some i)) (λ v. parse (mute (f v)) (silent b folds here deeper n) (Some i)) (slice_get b i) (λ v. muted (f v) b folds here deeper m n h a (Some i))
+  muted (print_plain t p) b folds here deeper m n h a i = let o = parse p (silent b folds here deeper m) i in ap (λ xs. record { events = xs; place = o.place; is_bracket_open = o.is_bracket_open }) (said_plain form.include_hash t (events form.include_hash false o.tree)) ∙ muted p b folds here deeper m n h a i
+  muted (byte f) b folds here deeper m n h a i = worded (of form false) look b folds false here here deeper m n byte_at (λ v. parse (f v) (silent b folds here deeper m)) (λ v. parse (mute (f v)) (silent b folds here deeper n)) (λ v. muted (f v) b folds here deeper m n h a) i
+  muted (namespace f) b folds here deeper m n h a i = worded (of form false) look b folds false here here deeper m n namespace_at (λ v. parse (f v) (silent b folds here deeper m)) (λ v. parse (mute (f v)) (silent b folds here deeper n)) (λ v. muted (f v) b folds here deeper m n h a) i
+  muted (integer f) b folds here deeper m n h a i = worded (of form false) look b folds false here here deeper m n integer_at (λ v. parse (f v) (silent b folds here deeper m)) (λ v. parse (mute (f v)) (silent b folds here deeper n)) (λ v. muted (f v) b folds here deeper m n h a) i
+  muted (optional tag f) b folds here deeper m n h a i = worded (of form false) look b folds false here here deeper m n (optional_at tag) (λ v. parse (f v) (silent b folds here deeper m)) (λ v. parse (mute (f v)) (silent b folds here deeper n)) (λ v. muted (f v) b folds here deeper m n h a) i
+  muted (identifier f) b folds here deeper m n h a i = worded (of form false) look b folds false here here deeper m n identifier_at (λ v. parse (f v) (silent b folds here deeper m)) (λ v. parse (mute (f v)) (silent b folds here deeper n)) (λ v. muted (f v) b folds here deeper m n h a) i
+  muted (nibbles f) b folds here deeper m n h a i = worded (of form false) look b folds false here here deeper m n nibbles_at (λ v. parse (f v) (silent b folds here deeper m)) (λ v. parse (mute (f v)) (silent b folds here deeper n)) (λ v. muted (f v) b folds here deeper m n h a) i
+  muted (peek f) b folds here deeper m n h a (Some i) = peeked (of form false) look (λ v. parse (f v) (silent b folds here deeper m) (Some i)) (λ v. parse (mute (f v)) (silent b folds here deeper n) (Some i)) (slice_get b i) (λ v. muted (f v) b folds here deeper m n h a (Some i))
   muted (next c p q) b folds here deeper m n h a None = muted q b folds here deeper m n h a None
-  muted (next c p q) b folds here deeper m n h a (Some i) = forked (of plain false) look (is_byte b i c) (parse p (silent b folds here deeper m)) (parse (mute p) (silent b folds here deeper n)) (parse q (silent b folds here deeper m)) (parse (mute q) (silent b folds here deeper n)) (Some i)
+  muted (next c p q) b folds here deeper m n h a (Some i) = forked (of form false) look (is_byte b i c) (parse p (silent b folds here deeper m)) (parse (mute p) (silent b folds here deeper n)) (parse q (silent b folds here deeper m)) (parse (mute q) (silent b folds here deeper n)) (Some i)
       (muted p b folds here deeper m n h a) (muted q b folds here deeper m n h a)
   muted (if_ok p q) b folds here deeper m n h a None = muted q b folds here deeper m n h a None
   muted (if_ok p q) b folds here deeper m n h a (Some i) = muted p b folds here deeper m n h a (Some i)
   muted (until_end p q) b folds here deeper m n h a i = alike_followed (repetitions (suc (length b)) b (parse p (silent b folds here deeper m)) i) (repetitions (suc (length b)) b (parse (mute p) (silent b folds here deeper n)) i) (parse q (silent b folds here deeper m)) (parse (mute q) (silent b folds here deeper n))
-      (turned (of plain false) look alike_followed (suc (length b)) b (parse p (silent b folds here deeper m)) (parse (mute p) (silent b folds here deeper n)) (muted p b folds here deeper m n h a) i) (muted q b folds here deeper m n h a)
+      (turned (of form false) look alike_followed (suc (length b)) b (parse p (silent b folds here deeper m)) (parse (mute p) (silent b folds here deeper n)) (muted p b folds here deeper m n h a) i) (muted q b folds here deeper m n h a)
   muted (raise p) b folds here (l ∷ ls) m n h a i = muted p b folds l ls m n a.0 a.1 i
   muted (unit p q) b folds here deeper m n h a i = alike_followed (parse p (silent b folds here deeper m) i) (parse (mute p) (silent b folds here deeper n) i) (parse q (silent b folds here deeper m)) (parse (mute q) (silent b folds here deeper n)) (muted p b folds here deeper m n h a i) (muted q b folds here deeper m n h a)
   muted (child kind value p) b folds here deeper m n h a None = alike_followed (failed_with after_error) (failed_with after_error) (parse p (silent b folds here deeper m)) (parse (mute p) (silent b folds here deeper n)) refl (muted p b folds here deeper m n h a)
@@ -215,24 +215,24 @@ items_alike kind _ _ = refl
 
 -- The levels.
 
-unit_uniform : (plain : Bool) (b : List ℕ) (folds : Bool) (here : Level) (deeper : List Level) → Uniform plain here → AllUniform plain deeper → (kind : Kind) (v w : Bool) (m n : ℕ) (i : Place)
-    → of plain false (parse (items kind v) (silent b folds here deeper m) i) ≡ of plain false (parse (items kind w) (silent b folds here deeper n) i)
-unit_uniform plain b folds here deeper h a kind v w m n i =
-    muted plain (items kind v) b folds here deeper m 0 h a i
-    ∙ (ap (λ (p : Items). of plain false (parse p (silent b folds here deeper 0) i)) (items_alike kind v w)
-    ∙ sym (muted plain (items kind w) b folds here deeper n 0 h a i))
+unit_uniform : (form : Form) (b : List ℕ) (folds : Bool) (here : Level) (deeper : List Level) → Uniform form here → AllUniform form deeper → (kind : Kind) (v w : Bool) (m n : ℕ) (i : Place)
+    → of form false (parse (items kind v) (silent b folds here deeper m) i) ≡ of form false (parse (items kind w) (silent b folds here deeper n) i)
+unit_uniform form b folds here deeper h a kind v w m n i =
+    muted form (items kind v) b folds here deeper m 0 h a i
+    ∙ (ap (λ (p : Items). of form false (parse p (silent b folds here deeper 0) i)) (items_alike kind v w)
+    ∙ sym (muted form (items kind w) b folds here deeper n 0 h a i))
 
-level_uniform : (plain : Bool) (b : List ℕ) (folds : Bool) (ls : List Level) → AllUniform plain ls → Uniform plain (level_of b folds ls)
+level_uniform : (form : Form) (b : List ℕ) (folds : Bool) (ls : List Level) → AllUniform form ls → Uniform form (level_of b folds ls)
 unfolding level_of
-level_uniform plain b folds ls a kind v w m n i =
+level_uniform form b folds ls a kind v w m n i =
     let inner : Level = λ pr k u o j. parse (items k u) (record { symbol = b; folds = folds; printed = pr; here = nowhere; deeper = ls; lifetimes = o }) (Some j) in
-    unit_uniform plain b folds inner ls (λ k x y o o' j. unit_uniform plain b folds nowhere ls (λ _ _ _ _ _ _. refl) a k x y o o' (Some j)) a kind v w m n (Some i)
+    unit_uniform form b folds inner ls (λ k x y o o' j. unit_uniform form b folds nowhere ls (λ _ _ _ _ _ _. refl) a k x y o o' (Some j)) a kind v w m n (Some i)
 
-pub levels_uniform : (plain : Bool) (b : List ℕ) (folds : Bool) (left : ℕ) → AllUniform plain (levels b folds left)
+pub levels_uniform : (form : Form) (b : List ℕ) (folds : Bool) (left : ℕ) → AllUniform form (levels b folds left)
 unfolding levels
-levels_uniform plain b folds zero = tt
-levels_uniform plain b folds (suc left) = (level_uniform plain b folds (levels b folds left) (levels_uniform plain b folds left), levels_uniform plain b folds left)
+levels_uniform form b folds zero = tt
+levels_uniform form b folds (suc left) = (level_uniform form b folds (levels b folds left) (levels_uniform form b folds left), levels_uniform form b folds left)
 
 -- a production that is not printed: its trace depends on neither the lifetimes in scope nor the value position
-pub silent_unit : (plain : Bool) (b : List ℕ) (folds : Bool) (left : ℕ) (kind : Kind) (v w : Bool) (m n i : ℕ) → of plain false (level_of b folds (levels b folds left) false kind v m i) ≡ of plain false (level_of b folds (levels b folds left) false kind w n i)
-silent_unit plain b folds left kind v w m n i = level_uniform plain b folds (levels b folds left) (levels_uniform plain b folds left) kind v w m n i
+pub silent_unit : (form : Form) (b : List ℕ) (folds : Bool) (left : ℕ) (kind : Kind) (v w : Bool) (m n i : ℕ) → of form false (level_of b folds (levels b folds left) false kind v m i) ≡ of form false (level_of b folds (levels b folds left) false kind w n i)
+silent_unit form b folds left kind v w m n i = level_uniform form b folds (levels b folds left) (levels_uniform form b folds left) kind v w m n i

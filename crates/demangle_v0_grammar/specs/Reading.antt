@@ -5,6 +5,7 @@ use Rattle.demangle_symbol.specs.Digits.{is_byte}
 use Rattle.demangle_symbol.specs.Primitives.{Name, Read, is_upper, then_if_some, some_or, byte_at, namespace_at, integer_at, optional_at, backref_at, identifier_at, nibbles_at}
 use Rattle.demangle_symbol.specs.Names.{name_pieces}
 pub use Rattle.demangle_symbol.specs.Primitives.{max_depth}
+pub use Rattle.demangle_symbol.specs.declared.form.Form.{Form}
 use Rattle.demangle_v0_grammar.specs.Items.{Text, Kind, a_path, a_trait_path, Items, done, invalid, print, print_plain, byte, namespace, integer, optional, identifier, nibbles, peek, next, if_ok, until_end, raise, unit, child, skip, folded, target, lifetime, binder, leave_open, dyn_trait, bindings}
 use Rattle.demangle_v0_grammar.specs.Table.{items}
 use Rattle.demangle_v0_grammar.specs.LookBudget.{LookCost}
@@ -288,11 +289,7 @@ levels symbol folds (suc n) = let deeper : List Level = levels symbol folds n in
 unfoldable pub read_at : List ℕ → Bool → Bool → Kind → ℕ → ℕ → ℕ → Bool → Outcome
 read_at symbol folds printed kind i depth lifetimes value = level_of symbol folds (levels symbol folds (max_depth - depth)) printed kind value lifetimes i
 
--- the form in which a symbol is printed: with hashes or without, and with folded arguments or without
-pub record Form : Type 0 where
-  pub include_hash : Bool
-  pub fold_arguments : Bool
-
+-- the form with hashes or without, and with folded arguments or without
 abbrev pub form : (include_hash fold_arguments : Bool) → Form
 form include_hash fold_arguments = record { include_hash = include_hash; fold_arguments = fold_arguments }
 

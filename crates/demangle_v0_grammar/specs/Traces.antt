@@ -3,7 +3,7 @@
 use Rattle.std.specs.Prelude.{Bool, List, [], codes, false, true, ℕ, ◌&&◌, ◌++◌, ◌∷◌}
 use Rattle.demangle_v0_grammar.specs.Items.{Text}
 use Rattle.demangle_v0_grammar.specs.LookBudget.{LookCost}
-use Rattle.demangle_v0_grammar.specs.Reading.{Context, Outcome, Place, Tree, after_error, invalid_syntax, level_of, levels, looked, looks, node, nothing, piece, plain_piece, text_cost, too_deep, unprinted}
+use Rattle.demangle_v0_grammar.specs.Reading.{Form, Context, Outcome, Place, Tree, after_error, invalid_syntax, level_of, levels, looked, looks, node, nothing, piece, plain_piece, text_cost, too_deep, unprinted}
 
 -- a text that is printed, or a number of looks that are allowed
 pub data Event : Type 0 where
@@ -52,8 +52,8 @@ pub record Trace : Type 0 where
   pub place : Place
   pub is_bracket_open : Bool
 
-abbrev pub of : Bool → Bool → Outcome → Trace
-of plain out o = record { events = events plain out o.tree; place = o.place; is_bracket_open = o.is_bracket_open }
+abbrev pub of : Form → Bool → Outcome → Trace
+of form out o = record { events = events form.include_hash out o.tree; place = o.place; is_bracket_open = o.is_bracket_open }
 
 abbrev pub empty_trace : Place → Bool → Trace
 empty_trace i o = record { events = []; place = i; is_bracket_open = o }
@@ -70,6 +70,6 @@ with_looks ks h = record h { events = looks_then ks h.events }
 abbrev pub with_texts : Bool → List Text → Trace → Trace
 with_texts out ts h = record h { events = texts_then out ts h.events }
 
--- the context of a production with `left` depths below its own, with arguments folded or not, printed or not
-abbrev pub context_at : List ℕ → Bool → Bool → ℕ → ℕ → Context
-context_at b folds out left lifetimes = record { symbol = b; folds = folds; printed = out; here = level_of b folds (levels b folds left); deeper = levels b folds left; lifetimes = lifetimes }
+-- the context of a production with `left` depths below its own, in a form, printed or not
+abbrev pub context_at : List ℕ → Form → Bool → ℕ → ℕ → Context
+context_at b form out left lifetimes = let folds = form.fold_arguments in record { symbol = b; folds = folds; printed = out; here = level_of b folds (levels b folds left); deeper = levels b folds left; lifetimes = lifetimes }

@@ -1,6 +1,6 @@
 -- The texts of binders, ABIs, names and numbers, in the order in which they are printed.
 use Rattle.std.proofs.Common.{◌≡◌, ℕ, zero, suc, ◌+◌, ◌/◌, ◌%◌, ◌<◌, ◌≤◌, Bool, true, false, cond, eqb, List, [], ◌∷◌, ◌++◌, length, get_or, refl, sym, ap, ◌∙◌, arith}
-use Rattle.std.specs.Prelude.{◌&&◌, codes}
+use Rattle.std.specs.Prelude.{◌&&◌, not, codes}
 use Rattle.std.specs.List.{slice_range}
 use Rattle.std.specs.Str.{IsAscii}
 use Rattle.std.specs.Fmt.{digits, digits_onto, digit_glyph}
@@ -63,8 +63,9 @@ pub hyphen_end : (s : List ℕ) (from at to : ℕ) → at ≡ to → hyphenated_
 hyphen_end s from at to e = rw (e, between_none s to) refl
 
 -- a disambiguator in brackets
-pub brackets_some : (d : ℕ) (include_hash : Bool) → 0 < d → include_hash ≡ true → cond (eqb d 0) [] (if_plain include_hash (codes "[" ∷ digits 16 false d ∷ codes "]" ∷ [])) ≡ codes "[" ∷ digits 16 false d ∷ codes "]" ∷ []
-brackets_some d include_hash h e = let t : eqb d 0 ≡ false = grind (arith, nat_tests) in rw (t, e) refl
+pub brackets_some : (d : ℕ) (plain : Bool) → 0 < d → not plain ≡ false → cond (eqb d 0) [] (if_plain plain (codes "[" ∷ digits 16 false d ∷ codes "]" ∷ [])) ≡ codes "[" ∷ digits 16 false d ∷ codes "]" ∷ []
+brackets_some d true h e = let t : eqb d 0 ≡ false = grind (arith, nat_tests) in rw t refl
+brackets_some d false h e = cc e
 
 -- hexadecimal digits are ASCII
 glyph_small : (d : ℕ) → d < 16 → digit_glyph false d < 128

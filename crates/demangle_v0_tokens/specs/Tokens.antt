@@ -12,7 +12,7 @@ use Rattle.demangle_symbol.specs.Idents.{IsIdentWithin, ident_at, name_in, name_
 use Rattle.demangle_symbol.specs.Nibbles.{HexPart, hex_at}
 use Rattle.demangle_v0_grammar.specs.Items.{Text}
 use Rattle.demangle_v0_grammar.specs.Table.{basic_types, extern, row_text}
-use Rattle.demangle_v0_grammar.specs.Reading.{Place, letter_of}
+use Rattle.demangle_v0_grammar.specs.Reading.{Form, Place, letter_of}
 use Rattle.demangle_v0_tokens.specs.Texts.{text}
 use Rattle.demangle_v0_grammar.specs.Binders.{binder_texts}
 use Rattle.demangle_symbol.specs.declared.cursor.Part.{Part}
@@ -63,25 +63,25 @@ abbrev pub if_plain : Bool → List Text → List Text
 if_plain true ts = ts
 if_plain false ts = []
 
-abbrev pub texts_of : List ℕ → Bool → Token → List Text
-texts_of b include_hash Nothing = []
-texts_of b include_hash (Fixed m) = text m ∷ []
-texts_of b include_hash (CrateName a d) = name_pieces (name_in b a) ++ (if d == 0 then [] else if_plain include_hash (codes "[" ∷ digits 16 false d ∷ codes "]" ∷ []))
-texts_of b include_hash (FieldName a) = name_pieces (name_in b a)
-texts_of b include_hash (NestedName n d a) = nested_texts n d (name_in b a)
-texts_of b include_hash NameAfterError = codes "::" ∷ codes "?" ∷ []
-texts_of b include_hash (Lifetime n) = codes "'" ∷ lifetime_texts n
-texts_of b include_hash LifetimeError = codes "'" ∷ codes "{invalid syntax}" ∷ []
-texts_of b include_hash (SpacedLifetime n) = codes "'" ∷ (letter_of n ++ codes " " ∷ [])
-texts_of b include_hash SpacedLifetimeError = codes "'" ∷ codes "{invalid syntax}" ∷ codes " " ∷ []
-texts_of b include_hash (DynLifetime n) = codes " + " ∷ codes "'" ∷ letter_of n
-texts_of b include_hash DynLifetimeError = codes " + " ∷ codes "'" ∷ codes "{invalid syntax}" ∷ []
-texts_of b include_hash (FunctionQualifiers unsafe a) = if unsafe then codes "unsafe " ∷ abi_texts b a else abi_texts b a
-texts_of b include_hash (Number n part tag) = number_texts (bytes_in b part) n ++ some_or [] (row_text tag basic_types) (λ t. if_plain include_hash (t ∷ []))
-texts_of b include_hash (Character c) = literal (code "'") (c ∷ [])
-texts_of b include_hash (StrLiteral part) = some_or [] (string_of (bytes_in b part)) (literal (code "\""))
-texts_of b include_hash (Binder n m) = binder_texts m n
-texts_of b include_hash (BindingName a) = name_pieces (name_in b a) ++ codes " = " ∷ []
+abbrev pub texts_of : List ℕ → Form → Token → List Text
+texts_of b form Nothing = []
+texts_of b form (Fixed m) = text m ∷ []
+texts_of b form (CrateName a d) = name_pieces (name_in b a) ++ (if d == 0 then [] else if_plain form.include_hash (codes "[" ∷ digits 16 false d ∷ codes "]" ∷ []))
+texts_of b form (FieldName a) = name_pieces (name_in b a)
+texts_of b form (NestedName n d a) = nested_texts n d (name_in b a)
+texts_of b form NameAfterError = codes "::" ∷ codes "?" ∷ []
+texts_of b form (Lifetime n) = codes "'" ∷ lifetime_texts n
+texts_of b form LifetimeError = codes "'" ∷ codes "{invalid syntax}" ∷ []
+texts_of b form (SpacedLifetime n) = codes "'" ∷ (letter_of n ++ codes " " ∷ [])
+texts_of b form SpacedLifetimeError = codes "'" ∷ codes "{invalid syntax}" ∷ codes " " ∷ []
+texts_of b form (DynLifetime n) = codes " + " ∷ codes "'" ∷ letter_of n
+texts_of b form DynLifetimeError = codes " + " ∷ codes "'" ∷ codes "{invalid syntax}" ∷ []
+texts_of b form (FunctionQualifiers unsafe a) = if unsafe then codes "unsafe " ∷ abi_texts b a else abi_texts b a
+texts_of b form (Number n part tag) = number_texts (bytes_in b part) n ++ some_or [] (row_text tag basic_types) (λ t. if_plain form.include_hash (t ∷ []))
+texts_of b form (Character c) = literal (code "'") (c ∷ [])
+texts_of b form (StrLiteral part) = some_or [] (string_of (bytes_in b part)) (literal (code "\""))
+texts_of b form (Binder n m) = binder_texts m n
+texts_of b form (BindingName a) = name_pieces (name_in b a) ++ codes " = " ∷ []
 
 -- how many looks are left to print a token
 abbrev pub print_looks : Token → ℕ
@@ -214,11 +214,11 @@ token_spec b w tag out lifetimes (Some i) = token_at b w tag out lifetimes i
 -- The texts of the parts of a token.
 
 -- a disambiguator in brackets
-abbrev pub disambiguator_texts : Bool → ℕ → List Text
-disambiguator_texts include_hash d = if d == 0 then [] else if_plain include_hash (codes "[" ∷ digits 16 false d ∷ codes "]" ∷ [])
+abbrev pub disambiguator_texts : Form → ℕ → List Text
+disambiguator_texts form d = if d == 0 then [] else if_plain form.include_hash (codes "[" ∷ digits 16 false d ∷ codes "]" ∷ [])
 
-abbrev pub crate_texts : Bool → Name → ℕ → List Text
-crate_texts include_hash a d = name_pieces a ++ disambiguator_texts include_hash d
+abbrev pub crate_texts : Form → Name → ℕ → List Text
+crate_texts form a d = name_pieces a ++ disambiguator_texts form d
 
 -- a name after a text, or nothing if the name is empty
 abbrev pub prefixed_name : Text → Name → List Text
@@ -237,11 +237,11 @@ abbrev pub head_texts : List ℕ → Bool → Abi → List Text
 head_texts b unsafe a = if unsafe then codes "unsafe " ∷ abi_texts b a else abi_texts b a
 
 -- the name of the basic type of a tag
-abbrev pub type_texts : Bool → ℕ → List Text
-type_texts include_hash tag = some_or [] (row_text tag basic_types) (λ t. if_plain include_hash (t ∷ []))
+abbrev pub type_texts : Form → ℕ → List Text
+type_texts form tag = some_or [] (row_text tag basic_types) (λ t. if_plain form.include_hash (t ∷ []))
 
-abbrev pub constant_texts : List ℕ → Bool → Option ℕ → Part → ℕ → List Text
-constant_texts b include_hash n part tag = number_texts (bytes_in b part) n ++ type_texts include_hash tag
+abbrev pub constant_texts : List ℕ → Form → Option ℕ → Part → ℕ → List Text
+constant_texts b form n part tag = number_texts (bytes_in b part) n ++ type_texts form tag
 
 -- Back references as they are read, and tokens whose parts are in a symbol.
 

@@ -42,7 +42,7 @@ pub trait Output {
         requires ascii { is_printed ≡ true → IsAscii source.now.symbol.now }
         requires in_bounds { IsTokenWithin source.now.symbol.now token.now }
         requires ready { ready self.old }
-        ensures prints { prints self.old (texts_of source.now.symbol.now source.now.include_hash token.now) result
+        ensures prints { prints self.old (texts_of source.now.symbol.now source.now.form token.now) result
             self.new }
         ensures ready { OnOk result (ready self.new) }
         ensures no_output { is_printed ≡ false → IsOk result }
@@ -63,7 +63,7 @@ pub trait Output {
         requires ascii { is_printed ≡ true → IsAscii source.now.symbol.now }
         requires in_bounds { IsTokenWithin source.now.symbol.now token.now }
         requires ready { ready self.old }
-        ensures prints { prints self.old (texts_of source.now.symbol.now source.now.include_hash token.now) result
+        ensures prints { prints self.old (texts_of source.now.symbol.now source.now.form token.now) result
             self.new }
         ensures ready { OnOk result (ready self.new) }
         ensures grows { looks.old ≤ looks.new }

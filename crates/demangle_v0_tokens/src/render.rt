@@ -35,7 +35,7 @@ impl Source<'_> {
         requires ascii { IsAscii self.now.symbol.now }
         requires in_bounds { IsTokenWithin self.now.symbol.now token.now }
         requires ready { Ready S.TextSink out.old }
-        ensures prints { Prints S.TextSink out.old (texts_of self.now.symbol.now self.now.include_hash
+        ensures prints { Prints S.TextSink out.old (texts_of self.now.symbol.now self.now.form
             token.now) result out.new }
         ensures grows { looks.old ≤ looks.new }
         ensures most { looks.new ≤ looks.old + print_looks token.now }

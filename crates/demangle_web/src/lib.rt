@@ -6,7 +6,9 @@ ghost use Rattle.std.specs.Prelude.{◌≡◌, ◌+◌, ◌<◌, ◌≤◌, ◌�
 ghost use Prim.Native.Nat.{min};
 ghost use Rattle.std.specs.List.{prefix_len};
 ghost use Rattle.rustc_demangle.specs.Cut.{size};
-ghost use Rattle.rustc_demangle.specs.Filtered.{is_run_byte, starts_run, filtered_in, filtered_within};
+ghost use Rattle.rustc_demangle.specs.Filtered.{is_run_byte, starts_run};
+ghost use Rattle.rustc_demangle.specs.Rewritten.{before_after, rewritten_in, rewritten_within, IsPlainLen};
+ghost use Rattle.rustc_demangle.specs.declared.byte_before.ByteBefore.TheVariants.{Outside, Alphanumeric};
 ghost use Rattle.rustc_demangle.specs.Slice.{overlay};
 ghost use Rattle.rustc_demangle.specs.Symbols.{folded};
 ghost use Rattle.demangle_c_string.specs.CString.{IsRustSymbol, path_in, path_within, c_string};
@@ -17,7 +19,7 @@ mod tests;
 use demangle_c_string::{
     MAX_SIZE, symbol_of, write_part, write_part_formatted, write_text, write_text_formatted,
 };
-use rustc_demangle::{Format, run_len, run_start};
+use rustc_demangle::{Format, plain_len, run_len, run_start};
 
 /// Returns `true` if the bytes are a Rust symbol, after a suffix of ThinLTO is removed.
 ///
@@ -84,8 +86,10 @@ pub extern "C" fn kodliwe_demangle_folded(
 /// the number of bytes of that text and the 0.
 ///
 /// A candidate symbol starts at `_ZN` or `_R`. It ends before the next byte that is not an ASCII
-/// letter, a digit, `$`, `.` or `_`. Its path is cut as by `kodliwe_demangle_limited`. All other
-/// bytes stay unchanged.
+/// letter, a digit, `$`, `.` or `_`. Its path is cut as by `kodliwe_demangle_limited`. It stays
+/// directly after an ASCII letter or digit. A path also replaces a single `_` before its symbol, if
+/// that `_` is the first byte or follows a byte that no symbol may have. All other bytes stay
+/// unchanged.
 ///
 /// The result does not depend on the size of the memory. The memory receives as much of the text as
 /// fits before a 0, and no byte after the 0 is changed. The result is `usize::MAX` if the number is
@@ -98,12 +102,12 @@ pub extern "C" fn kodliwe_demangle_text(
     include_hash: bool,
     limit: usize,
 ) -> usize
-    ensures size { let filtered = filtered_within include_hash (min limit MAX_SIZE) text.now in
-        length filtered < usize.MAX → result ≡ length filtered + 1 }
-    ensures text { let filtered = filtered_within include_hash (min limit MAX_SIZE) text.now in
-        length filtered < usize.MAX →
-        out.new ≡ overlay out.old (c_string (length out.old) filtered) }
-    ensures past { usize.MAX ≤ length (filtered_within include_hash (min limit MAX_SIZE) text.now) →
+    ensures size { let rewritten = rewritten_within include_hash (min limit MAX_SIZE) text.now in
+        length rewritten < usize.MAX → result ≡ length rewritten + 1 }
+    ensures text { let rewritten = rewritten_within include_hash (min limit MAX_SIZE) text.now in
+        length rewritten < usize.MAX →
+        out.new ≡ overlay out.old (c_string (length out.old) rewritten) }
+    ensures past { usize.MAX ≤ length (rewritten_within include_hash (min limit MAX_SIZE) text.now) →
         result ≡ usize.MAX }
 {
     write_text(text, out, include_hash, limit)
@@ -117,12 +121,12 @@ pub extern "C" fn kodliwe_demangle_text_folded(
     include_hash: bool,
     limit: usize,
 ) -> usize
-    ensures size { let filtered = filtered_in (folded include_hash (min limit MAX_SIZE)) text.now in
-        length filtered < usize.MAX → result ≡ length filtered + 1 }
-    ensures text { let filtered = filtered_in (folded include_hash (min limit MAX_SIZE)) text.now in
-        length filtered < usize.MAX →
-        out.new ≡ overlay out.old (c_string (length out.old) filtered) }
-    ensures past { usize.MAX ≤ length (filtered_in (folded include_hash (min limit MAX_SIZE)) text.now) →
+    ensures size { let rewritten = rewritten_in (folded include_hash (min limit MAX_SIZE)) text.now in
+        length rewritten < usize.MAX → result ≡ length rewritten + 1 }
+    ensures text { let rewritten = rewritten_in (folded include_hash (min limit MAX_SIZE)) text.now in
+        length rewritten < usize.MAX →
+        out.new ≡ overlay out.old (c_string (length out.old) rewritten) }
+    ensures past { usize.MAX ≤ length (rewritten_in (folded include_hash (min limit MAX_SIZE)) text.now) →
         result ≡ usize.MAX }
 {
     let format = Format::folded(include_hash, limit);
@@ -150,4 +154,21 @@ pub extern "C" fn kodliwe_run_len(text: &[u8]) -> usize
     ensures { result ≡ prefix_len is_run_byte text.now }
 {
     run_len(text)
+}
+
+/// Returns the length of the plain text before a run, without a single `_` at its end, which the
+/// path of the run replaces too. Returns `usize::MAX` if the text ends with an ASCII letter or
+/// digit. Then the run is not replaced.
+///
+/// The plain text starts where the whole text does, or after the run before it.
+#[unsafe(no_mangle)]
+pub extern "C" fn kodliwe_plain_len(plain: &[u8]) -> usize
+    ensures replaced { (before_after Outside plain.now ≡ Alphanumeric → ⊥) →
+        IsPlainLen Outside plain.now result }
+    ensures kept { before_after Outside plain.now ≡ Alphanumeric → result ≡ usize.MAX }
+{
+    match plain_len(plain) {
+        Some(len) => len,
+        None => usize::MAX,
+    }
 }

@@ -1,7 +1,8 @@
 //! Tests of the calls, for each kind of result. The texts are those of the Rust crate.
 use crate::{
     kodliwe_demangle_folded, kodliwe_demangle_limited, kodliwe_demangle_text,
-    kodliwe_demangle_text_folded, kodliwe_is_symbol, kodliwe_run_len, kodliwe_run_start,
+    kodliwe_demangle_text_folded, kodliwe_is_symbol, kodliwe_plain_len, kodliwe_run_len,
+    kodliwe_run_start,
 };
 
 #[test]
@@ -60,6 +61,14 @@ fn a_text_keeps_what_is_no_symbol(rt: HostRuntime) {
 }
 
 #[test]
+fn the_bytes_before_a_symbol_of_a_text(rt: HostRuntime) {
+    let mut out = [9; 40];
+    let text = b"SW_RC0.zip .text._ZN3fooE __ZN3fooE a__RC1a";
+    assert_eq!(rt; kodliwe_demangle_text(text, &mut out, false, 100), 29);
+    assert!(rt; out.starts_with(b"SW_RC0.zip .text.foo foo a_a\0\x09"));
+}
+
+#[test]
 fn a_text_is_counted_past_the_memory(rt: HostRuntime) {
     let mut out = [9; 5];
     assert_eq!(rt;
@@ -94,4 +103,22 @@ fn runs_are_found(rt: HostRuntime) {
     assert_eq!(rt; kodliwe_run_start(b"a _r _"), 6);
     assert_eq!(rt; kodliwe_run_len(b"_ZN3foo$.1E-x"), 11);
     assert_eq!(rt; kodliwe_run_len(b" _R"), 0);
+}
+
+#[test]
+fn plain_text_before_a_run_is_measured(rt: HostRuntime) {
+    let rows: [(&[u8], usize); 9] = [
+        (b"", 0),
+        (b"_", 0),
+        (b" _", 1),
+        (b"a _", 2),
+        (b"__", 2),
+        (b"a_", 2),
+        (b"._", 2),
+        (b"a-", 2),
+        (b" a", usize::MAX),
+    ];
+    for (plain, wanted) in rows {
+        assert_eq!(rt; kodliwe_plain_len(plain), wanted, "of {plain:?}");
+    }
 }

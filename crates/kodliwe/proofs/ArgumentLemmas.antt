@@ -9,7 +9,7 @@ use Rattle.kodliwe.specs.declared.arguments.ValuedOption.{ValuedOption}
 use Rattle.kodliwe.specs.declared.arguments.ValuedOption.TheVariants.{Input}
 use Rattle.kodliwe.specs.declared.arguments.NextArgument.{NextArgument}
 use Rattle.kodliwe.specs.declared.arguments.NextArgument.TheVariants as next
-use Rattle.kodliwe.specs.CommandLine.{Options, ParsedAs, filter, InputPart, stdin, file, symbols, IsInputPart, input_part_of, IsAlone, HasValue, Sets, ParsesTo, anything, a_value, a_symbol, ends, ends_symbols, misses_value, missing_value_error, rejection_of}
+use Rattle.kodliwe.specs.CommandLine.{Options, ParsedAs, filter, InputPart, stdin, file, symbol, IsInputPart, input_part_of, IsAlone, HasValue, Sets, ParsesTo, anything, a_value, a_shell, a_symbol, no_shell, misses_shell, ends, ends_symbols, misses_value, missing_value_error, rejection_of}
 use Rattle.kodliwe.specs.OneArgument.{expected_of}
 
 pub not_alone : (short long argument : List ℕ) → (argument ≡ short → ⊥) → (argument ≡ long → ⊥) → IsAlone short long argument → ⊥
@@ -41,7 +41,7 @@ sets_stdin old new sets = at sets.0 sets.1 sets.2
     at : (part : InputPart) → IsInputPart (codes "-") part → new ≡ record old { parts = part ∷ old.parts } → new ≡ record old { parts = stdin ∷ old.parts }
     at stdin is e = e
     at (file name) is e = absurd (is.0 refl)
-    at (symbols lines) is e = absurd is
+    at (symbol text) is e = absurd is
 
 -- no argument is left, and no option needs its value
 pub ends_there : (there : NextArgument) (o : Options) (arguments : List (List ℕ)) → arguments ≡ [] → (there ≡ next.Anything) ⊎ (there ≡ next.Symbol) → ParsesTo (expected_of there) o arguments (filter o)
@@ -53,6 +53,10 @@ pub lacks_there : (there : NextArgument) (o : Options) (arguments : List (List �
     → ParsesTo (expected_of there) o arguments (missing_value_error option argument.now)
 lacks_there there o arguments option argument none e =
     subst (λ n. ParsesTo (expected_of n) o arguments (missing_value_error option argument.now)) (sym e) (subst (λ ws. ParsesTo (a_value option argument.now) o ws (missing_value_error option argument.now)) (sym none) misses_value)
+
+-- no argument is left, and `--completions` needs its value
+pub lacks_shell : (there : NextArgument) (o : Options) (arguments : List (List ℕ)) → arguments ≡ [] → there ≡ next.Shell → ParsesTo (expected_of there) o arguments no_shell
+lacks_shell there o arguments none e = subst (λ n. ParsesTo (expected_of n) o arguments no_shell) (sym e) (subst (λ ws. ParsesTo a_shell o ws no_shell) (sym none) misses_shell)
 
 -- the arguments after the last one
 pub arguments_left : {X : Type 0} (f : X → List ℕ) (xs : List X) (n : ℕ) → length xs ≤ n → map f (drop n xs) ≡ []

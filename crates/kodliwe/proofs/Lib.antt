@@ -1,2 +1,3 @@
 pub mod FilteringLemmas
 pub mod ArgumentLemmas
+mod PartLemmas

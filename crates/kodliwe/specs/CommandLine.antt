@@ -4,23 +4,27 @@ use Rattle.std.specs.declared.option.Option.{Option}
 use Rattle.std.specs.Option.{option_map}
 use Rattle.std.specs.List.{starts_with}
 use Rattle.std.specs.Str.Parse.{IsNumeral, digits_value, without_leading_plus}
+use Rattle.kodliwe.specs.declared.about.About.{About}
+use Rattle.kodliwe.specs.declared.about.About.TheVariants.{Help, Version, Manual, Completions}
+use Rattle.kodliwe.specs.declared.about.Shell.{Shell}
+use Rattle.kodliwe.specs.declared.about.Shell.TheVariants.{Bash, Zsh, Fish}
 use Rattle.kodliwe.specs.declared.arguments.InputSource.{InputSource}
-use Rattle.kodliwe.specs.declared.arguments.InputSource.TheVariants.{Stdin, File, Symbols}
+use Rattle.kodliwe.specs.declared.arguments.InputSource.TheVariants.{Stdin, File, Symbol}
 use Rattle.kodliwe.specs.declared.arguments.Target.{Target}
 use Rattle.kodliwe.specs.declared.arguments.Target.TheVariants as targets
 use Rattle.kodliwe.specs.declared.arguments.Request.{Request}
 use Rattle.kodliwe.specs.declared.arguments.Command.{Command}
-use Rattle.kodliwe.specs.declared.arguments.Command.TheVariants.{Help, Version, Filter}
+use Rattle.kodliwe.specs.declared.arguments.Command.TheVariants.{Print, Filter}
 use Rattle.kodliwe.specs.declared.arguments.UsageError.{UsageError}
-use Rattle.kodliwe.specs.declared.arguments.UsageError.TheVariants.{Unknown, NoFile, NoNumber, BadNumber, SecondOutput, Memory}
+use Rattle.kodliwe.specs.declared.arguments.UsageError.TheVariants.{Unknown, NoFile, NoNumber, BadNumber, SecondOutput, NoShell, BadShell, Memory}
 use Rattle.kodliwe.specs.declared.arguments.ValuedOption.{ValuedOption}
 use Rattle.kodliwe.specs.declared.arguments.ValuedOption.TheVariants.{Input, Output, Limit}
 
--- a text to filter: standard input, a file, or the lines of symbols
+-- a part of the output: standard input or a file, filtered, or a SYMBOL argument
 pub data InputPart : Type 0 where
   stdin : InputPart
   file : List ℕ → InputPart
-  symbols : List ℕ → InputPart
+  symbol : List ℕ → InputPart
 
 -- a place to write to: standard output, or a file
 pub data OutputTarget : Type 0 where
@@ -41,30 +45,27 @@ defaults = record { parts = []; output = None; keeps_hash = false; folds = false
 
 -- The result of parsing the arguments: a request, or the error and the argument that caused it.
 pub data ParsedAs : Type 0 where
-  help version : ParsedAs
+  prints : About → ParsedAs
   filter : Options → ParsedAs
   unknown no_file no_number second_output : List ℕ → ParsedAs
   -- the option's argument, and the value
   bad_number : List ℕ → List ℕ → ParsedAs
+  no_shell : ParsedAs
+  bad_shell : List ℕ → ParsedAs
 
--- the meaning of the next argument: anything, the value of the option in this argument, or a symbol
+-- The meaning of the next argument: anything, the value of the option in this argument, the value of `--completions`,
+-- or a symbol.
 pub data ExpectedArgument : Type 0 where
   anything : ExpectedArgument
   a_value : ValuedOption → List ℕ → ExpectedArgument
+  a_shell : ExpectedArgument
   a_symbol : ExpectedArgument
-
--- A symbol is a line. It joins the lines of the symbols directly before it.
-abbrev pub with_line : List ℕ → List InputPart → List InputPart
-with_line argument [] = symbols (argument ++ 10 ∷ []) ∷ []
-with_line argument (stdin ∷ parts) = symbols (argument ++ 10 ∷ []) ∷ stdin ∷ parts
-with_line argument (file path ∷ parts) = symbols (argument ++ 10 ∷ []) ∷ file path ∷ parts
-with_line argument (symbols lines ∷ parts) = symbols (lines ++ (argument ++ 10 ∷ [])) ∷ parts
 
 -- `-` as an input file is standard input
 abbrev pub IsInputPart : List ℕ → InputPart → Type 0
 IsInputPart path stdin = path ≡ codes "-"
 IsInputPart path (file name) = (path ≢ codes "-") × (name ≡ path)
-IsInputPart path (symbols lines) = ⊥
+IsInputPart path (symbol text) = ⊥
 
 -- `-` as an output file is standard output
 abbrev pub IsOutputTarget : List ℕ → OutputTarget → Type 0
@@ -91,6 +92,22 @@ HasValue short long argument value = (argument ≡ long ++ 61 ∷ value) ⊎ ((a
 
 abbrev pub IsNotOption : List ℕ → List ℕ → List ℕ → Type 0
 IsNotOption short long argument = (IsAlone short long argument → ⊥) × ((value : List ℕ) → HasValue short long argument value → ⊥)
+
+abbrev pub shell_name : Shell → List ℕ
+shell_name Bash = codes "bash"
+shell_name Zsh = codes "zsh"
+shell_name Fish = codes "fish"
+
+-- the value of `--completions` is an error
+abbrev pub IsInvalidShell : List ℕ → ParsedAs → Type 0
+IsInvalidShell name answer = ((shell : Shell) → name ≢ shell_name shell) × (answer ≡ bad_shell name)
+
+-- The option that prints a text. `--completions` may also have its value in the next argument.
+abbrev pub Requests : About → List ℕ → Type 0
+Requests Help argument = IsAlone (codes "-h") (codes "--help") argument
+Requests Version argument = IsAlone (codes "-V") (codes "--version") argument
+Requests Manual argument = argument ≡ codes "--man"
+Requests (Completions shell) argument = argument ≡ codes "--completions=" ++ shell_name shell
 
 -- decimal digits of a number that fits a `usize`, with or without a `+` before them
 abbrev pub IsNumber : List ℕ → Type 0
@@ -121,8 +138,11 @@ pub record IsUnknown (argument : List ℕ) : Type 0 where
   pub no_end : argument ≢ codes "--"
   pub no_hash : argument ≢ codes "--hash"
   pub no_fold : IsAlone (codes "-f") (codes "--fold") argument → ⊥
-  pub no_help : IsAlone (codes "-h") (codes "--help") argument → ⊥
-  pub no_version : IsAlone (codes "-V") (codes "--version") argument → ⊥
+  pub no_help : Requests Help argument → ⊥
+  pub no_version : Requests Version argument → ⊥
+  pub no_manual : Requests Manual argument → ⊥
+  pub no_shell_after : argument ≢ codes "--completions"
+  pub no_shell_within : (name : List ℕ) → argument ≢ codes "--completions=" ++ name
   pub no_input : IsNotOption (codes "-i") (codes "--input") argument
   pub no_output : IsNotOption (codes "-o") (codes "--output") argument
   pub no_limit : IsNotOption (codes "-l") (codes "--limit") argument
@@ -132,20 +152,26 @@ pub record IsUnknown (argument : List ℕ) : Type 0 where
 pub data ParsesTo : ExpectedArgument → Options → List (List ℕ) → ParsedAs → Type 0 where
   ends : {o : Options} → ParsesTo anything o [] (filter o)
   takes_symbol : {o : Options} {w : List ℕ} {ws : List (List ℕ)} {a : ParsedAs} → starts_with nat_eq w (codes "-") ≡ false
-      → ParsesTo anything (record o { parts = with_line w o.parts }) ws a → ParsesTo anything o (w ∷ ws) a
+      → ParsesTo anything (record o { parts = symbol w ∷ o.parts }) ws a → ParsesTo anything o (w ∷ ws) a
   takes_stdin : {o : Options} {w : List ℕ} {ws : List (List ℕ)} {a : ParsedAs} → w ≡ codes "-"
       → ParsesTo anything (record o { parts = stdin ∷ o.parts }) ws a → ParsesTo anything o (w ∷ ws) a
   takes_hash : {o : Options} {w : List ℕ} {ws : List (List ℕ)} {a : ParsedAs} → w ≡ codes "--hash"
       → ParsesTo anything (record o { keeps_hash = true }) ws a → ParsesTo anything o (w ∷ ws) a
   takes_fold : {o : Options} {w : List ℕ} {ws : List (List ℕ)} {a : ParsedAs} → IsAlone (codes "-f") (codes "--fold") w
       → ParsesTo anything (record o { folds = true }) ws a → ParsesTo anything o (w ∷ ws) a
-  takes_help : {o : Options} {w : List ℕ} {ws : List (List ℕ)} → IsAlone (codes "-h") (codes "--help") w → ParsesTo anything o (w ∷ ws) help
-  takes_version : {o : Options} {w : List ℕ} {ws : List (List ℕ)} → IsAlone (codes "-V") (codes "--version") w → ParsesTo anything o (w ∷ ws) version
+  takes_text : {o : Options} {w : List ℕ} {ws : List (List ℕ)} (about : About) → Requests about w → ParsesTo anything o (w ∷ ws) (prints about)
+  has_bad_shell : {o : Options} {w : List ℕ} {ws : List (List ℕ)} {a : ParsedAs} (name : List ℕ) → w ≡ codes "--completions=" ++ name → IsInvalidShell name a
+      → ParsesTo anything o (w ∷ ws) a
+  -- `--completions` without a value: the next argument is the value
+  awaits_shell : {o : Options} {w : List ℕ} {ws : List (List ℕ)} {a : ParsedAs} → w ≡ codes "--completions" → ParsesTo a_shell o ws a → ParsesTo anything o (w ∷ ws) a
+  is_shell : {o : Options} {w : List ℕ} {ws : List (List ℕ)} (shell : Shell) → w ≡ shell_name shell → ParsesTo a_shell o (w ∷ ws) (prints (Completions shell))
+  is_bad_shell : {o : Options} {w : List ℕ} {ws : List (List ℕ)} {a : ParsedAs} → IsInvalidShell w a → ParsesTo a_shell o (w ∷ ws) a
+  misses_shell : {o : Options} → ParsesTo a_shell o [] no_shell
   is_unknown : {o : Options} {w : List ℕ} {ws : List (List ℕ)} → IsUnknown w → ParsesTo anything o (w ∷ ws) (unknown w)
   -- after `--` each argument is a symbol
   takes_end : {o : Options} {w : List ℕ} {ws : List (List ℕ)} {a : ParsedAs} → w ≡ codes "--" → ParsesTo a_symbol o ws a → ParsesTo anything o (w ∷ ws) a
   is_symbol : {o : Options} {w : List ℕ} {ws : List (List ℕ)} {a : ParsedAs}
-      → ParsesTo a_symbol (record o { parts = with_line w o.parts }) ws a → ParsesTo a_symbol o (w ∷ ws) a
+      → ParsesTo a_symbol (record o { parts = symbol w ∷ o.parts }) ws a → ParsesTo a_symbol o (w ∷ ws) a
   ends_symbols : {o : Options} → ParsesTo a_symbol o [] (filter o)
   -- an option that includes its value
   has_value : {o p : Options} {w : List ℕ} {ws : List (List ℕ)} {a : ParsedAs} (v : ValuedOption) (value : List ℕ)
@@ -165,7 +191,7 @@ pub data ParsesTo : ExpectedArgument → Options → List (List ℕ) → ParsedA
 abbrev pub input_part_of : InputSource → InputPart
 input_part_of Stdin = stdin
 input_part_of (File path) = file path.now
-input_part_of (Symbols lines) = symbols lines.items
+input_part_of (Symbol text) = symbol text.now
 
 abbrev pub output_target_of : Target → OutputTarget
 output_target_of targets.Stdout = stdout
@@ -182,8 +208,7 @@ options_of request = record {
 
 -- The result that a value of the code represents. A failed allocation has none.
 abbrev pub parsed_as : Command → ParsedAs
-parsed_as Help = help
-parsed_as Version = version
+parsed_as (Print about) = prints about
 parsed_as (Filter request) = filter (options_of request)
 
 abbrev pub rejection_of : UsageError → Option ParsedAs
@@ -192,4 +217,6 @@ rejection_of (NoFile argument) = Some (no_file argument.now)
 rejection_of (NoNumber argument) = Some (no_number argument.now)
 rejection_of (BadNumber argument value) = Some (bad_number argument.now value.now)
 rejection_of (SecondOutput argument) = Some (second_output argument.now)
+rejection_of NoShell = Some no_shell
+rejection_of (BadShell name) = Some (bad_shell name.now)
 rejection_of Memory = None

@@ -1,6 +1,8 @@
 -- The definitions that a reader of the program's contracts has to believe.
-pub mod Filtering
+pub mod Parts
 pub mod CommandLine
+pub mod About
 -- Internal: no public contract cites these.
 pub mod Coalescing
+pub mod Filtering
 pub mod OneArgument

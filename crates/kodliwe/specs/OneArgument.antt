@@ -1,5 +1,5 @@
 -- The kind of one argument, and its effect.
-use Rattle.std.specs.Prelude.{◌≡◌, ℕ, false, nat_eq, List, ◌∷◌, codes, Some, None}
+use Rattle.std.specs.Prelude.{◌≡◌, ℕ, false, nat_eq, List, ◌∷◌, ◌++◌, codes, Some, None}
 use Rattle.std.specs.List.{starts_with}
 use Rattle.kodliwe.specs.declared.arguments.Argument.{Argument}
 use Rattle.kodliwe.specs.declared.arguments.Argument.TheVariants as kind
@@ -7,7 +7,7 @@ use Rattle.kodliwe.specs.declared.arguments.NextArgument.{NextArgument}
 use Rattle.kodliwe.specs.declared.arguments.NextArgument.TheVariants as next
 use Rattle.kodliwe.specs.declared.arguments.AfterArgument.{AfterArgument}
 use Rattle.kodliwe.specs.declared.arguments.AfterArgument.TheVariants as taken
-use Rattle.kodliwe.specs.CommandLine.{short_name, long_name, IsAlone, HasValue, IsUnknown, Options, ParsedAs, help, version, ExpectedArgument, anything, a_value, a_symbol, ParsesTo}
+use Rattle.kodliwe.specs.CommandLine.{short_name, long_name, IsAlone, HasValue, Requests, IsUnknown, Options, ParsedAs, prints, ExpectedArgument, anything, a_value, a_shell, a_symbol, ParsesTo}
 
 -- the kind of an argument before `--`
 abbrev pub IsArgument : List ℕ → Argument → Type 0
@@ -18,14 +18,16 @@ IsArgument argument (kind.Valued option None) = IsAlone (short_name option) (lon
 IsArgument argument (kind.Valued option (Some value)) = HasValue (short_name option) (long_name option) argument value.now
 IsArgument argument kind.Hash = argument ≡ codes "--hash"
 IsArgument argument kind.Fold = IsAlone (codes "-f") (codes "--fold") argument
-IsArgument argument kind.Help = IsAlone (codes "-h") (codes "--help") argument
-IsArgument argument kind.Version = IsAlone (codes "-V") (codes "--version") argument
+IsArgument argument (kind.Print about) = Requests about argument
+IsArgument argument kind.Completions = argument ≡ codes "--completions"
+IsArgument argument (kind.CompletionsOf name) = argument ≡ codes "--completions=" ++ name.now
 IsArgument argument kind.Unknown = IsUnknown argument
 
 -- the meaning of the next argument
 abbrev pub expected_of : NextArgument → ExpectedArgument
 expected_of next.Anything = anything
 expected_of (next.Value option argument) = a_value option argument.now
+expected_of next.Shell = a_shell
 expected_of next.Symbol = a_symbol
 
 -- The effect of one argument, whatever follows it. It changes the options and determines the meaning of the next
@@ -33,8 +35,7 @@ expected_of next.Symbol = a_symbol
 abbrev pub Accepts : ExpectedArgument → Options → List ℕ → Options → AfterArgument → Type 0
 Accepts place old argument new (taken.NextArgument place_after) = (arguments : List (List ℕ)) (answer : ParsedAs)
     → ParsesTo (expected_of place_after) new arguments answer → ParsesTo place old (argument ∷ arguments) answer
-Accepts place old argument new taken.Help = (arguments : List (List ℕ)) → ParsesTo place old (argument ∷ arguments) help
-Accepts place old argument new taken.Version = (arguments : List (List ℕ)) → ParsesTo place old (argument ∷ arguments) version
+Accepts place old argument new (taken.Print about) = (arguments : List (List ℕ)) → ParsesTo place old (argument ∷ arguments) (prints about)
 
 abbrev pub Rejects : ExpectedArgument → Options → List ℕ → ParsedAs → Type 0
 Rejects place old argument answer = (arguments : List (List ℕ)) → ParsesTo place old (argument ∷ arguments) answer

@@ -9,16 +9,17 @@ ghost use Rattle.kodliwe.specs.OneArgument.{IsArgument, Accepts, Rejects, expect
 mod kinds;
 mod requests;
 
-use crate::arguments::kinds::classify;
+use crate::about::About;
+use crate::arguments::kinds::{classify, shell_of};
 use std::alloc::{AllocError, Global};
 
-/// A text to filter, in the order of the arguments.
-#[derive(Drop)]
+/// A text to filter, or an argument to print.
+#[derive(Clone, Copy)]
 pub enum InputSource<'a> {
     Stdin,
     File(&'a str),
-    /// Consecutive symbols, each followed by a line feed.
-    Symbols(Vec<u8>),
+    /// A SYMBOL argument.
+    Symbol(&'a str),
 }
 
 /// The output that the arguments name.
@@ -41,15 +42,13 @@ pub struct Request<'a> {
     pub fold_arguments: bool,
     /// The largest number of bytes of a path.
     pub limit: usize,
-    /// The first SYMBOL that the filter does not change.
-    pub plain_argument: Option<&'a str>,
 }
 
 /// The action that the arguments request.
 #[derive(Drop)]
 pub enum Command<'a> {
-    Help,
-    Version,
+    /// Prints a text about the program.
+    Print(About),
     Filter(Request<'a>),
 }
 
@@ -67,6 +66,10 @@ pub enum UsageError<'a> {
     BadNumber(&'a str, &'a str),
     /// The option in this argument was given before.
     SecondOutput(&'a str),
+    /// `--completions` has no SHELL after it.
+    NoShell,
+    /// The value of `--completions` is not the name of a shell.
+    BadShell(&'a str),
     Memory,
 }
 
@@ -101,8 +104,12 @@ pub enum Argument<'a> {
     Valued(ValuedOption, Option<&'a str>),
     Hash,
     Fold,
-    Help,
-    Version,
+    /// An option that prints a text.
+    Print(About),
+    /// `--completions` without its value.
+    Completions,
+    /// `--completions` with this value.
+    CompletionsOf(&'a str),
     /// Any other argument that starts with `-`.
     Unknown,
 }
@@ -113,6 +120,8 @@ pub enum NextArgument<'a> {
     Anything,
     /// The value of the option in this argument.
     Value(ValuedOption, &'a str),
+    /// The value of `--completions`.
+    Shell,
     Symbol,
 }
 
@@ -120,8 +129,7 @@ pub enum NextArgument<'a> {
 #[derive(Clone, Copy, Drop)]
 pub enum AfterArgument<'a> {
     NextArgument(NextArgument<'a>),
-    Help,
-    Version,
+    Print(About),
 }
 
 impl<'a> Request<'a> {
@@ -150,7 +158,6 @@ impl<'a> Request<'a> {
     /// valid or memory can't be allocated.
     fn parse_option_or_symbol(
         &mut self,
-        alloc: Global,
         argument: &'a str,
     ) -> Result<AfterArgument<'a>, UsageError<'a>>
         ensures takes { IfOk result (λ taken. Accepts anything (options_of self.old) argument.now
@@ -159,14 +166,18 @@ impl<'a> Request<'a> {
             Rejects anything (options_of self.old) argument.now answer)) }
     {
         match classify(argument) {
-            Argument::Symbol => self.add_symbol(alloc, argument)?,
+            Argument::Symbol => self.add_symbol(argument)?,
             Argument::Stdin => self.add_file("-")?,
             Argument::End => return Ok(AfterArgument::NextArgument(NextArgument::Symbol)),
             Argument::Valued(option, within) => return self.parse_option(option, argument, within),
             Argument::Hash => self.include_hash = true,
             Argument::Fold => self.fold_arguments = true,
-            Argument::Help => return Ok(AfterArgument::Help),
-            Argument::Version => return Ok(AfterArgument::Version),
+            Argument::Print(about) => return Ok(AfterArgument::Print(about)),
+            Argument::Completions => return Ok(AfterArgument::NextArgument(NextArgument::Shell)),
+            Argument::CompletionsOf(name) => {
+                let shell = shell_of(name)?;
+                return Ok(AfterArgument::Print(About::Completions(shell)));
+            }
             Argument::Unknown => return Err(UsageError::Unknown(argument)),
         }
         Ok(AfterArgument::NextArgument(NextArgument::Anything))
@@ -175,7 +186,6 @@ impl<'a> Request<'a> {
     /// Applies one argument. Fails if it is not valid or memory can't be allocated.
     fn parse_argument(
         &mut self,
-        alloc: Global,
         next: NextArgument<'a>,
         argument: &'a str,
     ) -> Result<AfterArgument<'a>, UsageError<'a>>
@@ -185,13 +195,17 @@ impl<'a> Request<'a> {
             Rejects (expected_of next.entry) (options_of self.old) argument.now answer)) }
     {
         match next {
-            NextArgument::Anything => self.parse_option_or_symbol(alloc, argument),
+            NextArgument::Anything => self.parse_option_or_symbol(argument),
             NextArgument::Value(option, name) => {
                 self.set_value(option, name, argument)?;
                 Ok(AfterArgument::NextArgument(NextArgument::Anything))
             }
+            NextArgument::Shell => {
+                let shell = shell_of(argument)?;
+                Ok(AfterArgument::Print(About::Completions(shell)))
+            }
             NextArgument::Symbol => {
-                self.add_symbol(alloc, argument)?;
+                self.add_symbol(argument)?;
                 Ok(AfterArgument::NextArgument(NextArgument::Symbol))
             }
         }
@@ -211,13 +225,13 @@ fn missing_value(option: ValuedOption, argument: &str) -> UsageError<'_>
 /// Parses the arguments after the program's name.
 ///
 /// Options and symbols may come in any order. After `--` each argument is a symbol. The first
-/// `--help` or `--version` is the result, and no argument after it is read.
+/// option that prints a text is the result, and no argument after it is read.
 ///
 /// # Errors
 ///
 /// Fails at the first argument that starts with `-` and is not an option. Fails at an option
-/// without its FILE or its number of BYTES, and at a second `-o`. Fails if memory can't be
-/// allocated.
+/// without its FILE, its number of BYTES or its SHELL, and at a second `-o`. Fails if memory can't
+/// be allocated.
 pub fn parse_arguments<'a>(
     alloc: Global,
     arguments: &'a [String],
@@ -230,14 +244,14 @@ pub fn parse_arguments<'a>(
     let mut request = Request::new(alloc);
     let mut next = NextArgument::Anything;
     for argument in arguments {
-        match request.parse_argument(alloc, next, argument.as_str())? {
+        match request.parse_argument(next, argument.as_str())? {
             AfterArgument::NextArgument(following) => next = following,
-            AfterArgument::Help => return Ok(Command::Help),
-            AfterArgument::Version => return Ok(Command::Version),
+            AfterArgument::Print(about) => return Ok(Command::Print(about)),
         }
     }
     match next {
         NextArgument::Anything | NextArgument::Symbol => Ok(Command::Filter(request)),
         NextArgument::Value(option, argument) => Err(missing_value(option, argument)),
+        NextArgument::Shell => Err(UsageError::NoShell),
     }
 }

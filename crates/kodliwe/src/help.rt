@@ -1,10 +1,4 @@
-//! The texts that the program prints.
-
-pub const VERSION: &str = "\
-kodliwe 0.1.0
-Proved with Rattle, logic dac8208d650f15bf
-Licence: MIT
-";
+//! The texts that the program prints in both builds.
 
 pub const WAITING: &str = "kodliwe: reading standard input; press Ctrl-D to end\n";
 
@@ -24,6 +18,8 @@ Options:
       --hash          Keep the hashes of legacy symbols (foo::h05af221e174051e9)
   -f, --fold          Print generic arguments as _ (Vec<_> for Vec<u8>)
   -l, --limit BYTES   Cut each path at BYTES (1000000 if not given)
+      --man           Print the manual page; kodliwe --man | man -l - shows it
+      --completions SHELL  Print the completions of bash, zsh or fish
   -h, --help          Print this help
   -V, --version       Print the version, the logic of the proofs and the licence
       --              Each word after it is a SYMBOL

@@ -1,8 +1,8 @@
-//! The program's inputs: files, standard input, and symbols in memory.
-use crate::arguments::InputSource;
+//! The program's inputs: files and standard input.
+ghost use Rattle.std.specs.Prelude.{◌≡◌, false};
+
 use std::fs::{File, Files};
-use std::io::{Read, Stdin, Write};
-use std::{fs, io};
+use std::io::{self, Read, Stdin};
 
 /// A file that is opened when it is first read.
 #[derive(Drop)]
@@ -24,42 +24,21 @@ impl<F: Files> Read for LazyFile<'_, F> {
     }
 }
 
-/// A text in memory, as a reader. The first `taken` bytes are read.
-#[derive(Drop)]
-pub struct SymbolText {
-    bytes: Vec<u8>,
-    taken: usize,
-}
-
-impl Read for SymbolText {
-    fn read(&mut self, buf: &mut [u8]) -> io::Result<usize> {
-        let mut rest = self.bytes.as_slice().get(self.taken..).unwrap_or(b"");
-        let count = rest.read(buf)?;
-        self.taken = self.taken.saturating_add(count);
-        Ok(count)
-    }
-}
-
-/// A source as a reader.
+/// Standard input or a file, as a reader.
 #[derive(Drop)]
 pub enum SourceReader<'a, F: Files> {
     Stdin(Stdin),
     File(LazyFile<'a, F>),
-    SymbolText(SymbolText),
 }
 
 impl<'a, F: Files> SourceReader<'a, F> {
-    /// Returns a reader of this source. A file is not opened yet.
-    pub fn new(files: &'a F, stdin: Stdin, source: InputSource<'a>) -> SourceReader<'a, F> {
-        match source {
-            InputSource::Stdin => SourceReader::Stdin(stdin),
-            InputSource::File(path) => SourceReader::File(LazyFile {
-                files,
-                path,
-                file: None,
-            }),
-            InputSource::Symbols(bytes) => SourceReader::SymbolText(SymbolText { bytes, taken: 0 }),
-        }
+    /// Returns a reader of the file at a path. It is not opened yet.
+    pub fn of_file(files: &'a F, path: &'a str) -> SourceReader<'a, F> {
+        SourceReader::File(LazyFile {
+            files,
+            path,
+            file: None,
+        })
     }
 }
 
@@ -68,16 +47,59 @@ impl<F: Files> Read for SourceReader<'_, F> {
         match self {
             SourceReader::Stdin(stdin) => stdin.read(buf),
             SourceReader::File(file) => file.read(buf),
-            SourceReader::SymbolText(text) => text.read(buf),
         }
     }
 }
 
-/// Returns the name of a source in an error message.
-pub fn source_name<'a>(source: &InputSource<'a>) -> &'a str {
-    match source {
-        InputSource::Stdin => "standard input",
-        InputSource::File(path) => path,
-        InputSource::Symbols(_) => "symbols",
+/// The name of standard input in an error message.
+pub const STDIN_NAME: &str = "standard input";
+
+/// A reader that adds a line feed to a text whose last line has none, if that is wanted.
+#[derive(Drop)]
+pub struct LineReader<R: Read + Drop> {
+    reader: R,
+    is_wanted: bool,
+    /// Whether a line feed is wanted after the bytes that were read so far.
+    is_open: bool,
+}
+
+impl<R: Read + Drop> LineReader<R> {
+    /// Returns a reader of the same text, which adds a missing line feed if `is_wanted`.
+    pub fn new(reader: R, is_wanted: bool) -> LineReader<R>
+        ensures reader { result.reader ≡ reader }
+        ensures wanted { result.is_wanted ≡ is_wanted }
+        ensures open { result.is_open ≡ false }
+    {
+        LineReader {
+            reader,
+            is_wanted,
+            is_open: false,
+        }
+    }
+
+    /// Returns whether a line feed is wanted after these bytes, which were read last.
+    fn is_open_after(&self, bytes: &[u8]) -> bool {
+        match bytes.split_last() {
+            Some((last, _)) => self.is_wanted && *last != b'\n',
+            None => self.is_open,
+        }
+    }
+}
+
+impl<R: Read + Drop> Read for LineReader<R> {
+    /// Reads once, as the inner reader does. At the end of the text, reads the line feed that is
+    /// missing. Fails if the inner reader fails.
+    fn read(&mut self, buf: &mut [u8]) -> io::Result<usize> {
+        let count = self.reader.read(buf)?;
+        if count > 0 {
+            self.is_open = self.is_open_after(&buf[..count]);
+            return Ok(count);
+        }
+        if !self.is_open || buf.is_empty() {
+            return Ok(0);
+        }
+        self.is_open = false;
+        buf[0] = b'\n';
+        Ok(1)
     }
 }

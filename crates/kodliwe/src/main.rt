@@ -1,8 +1,11 @@
 //! Copies texts with each Rust symbol demangled.
 #![tactic(auto)]
 
+mod about;
 mod arguments;
 mod coalescing;
+mod descriptors;
+mod embedded;
 mod error;
 mod filtering;
 mod help;
@@ -13,7 +16,9 @@ mod replacement;
 mod same_file;
 #[cfg(test)]
 mod tests;
+mod version;
 
+use descriptors::take_closed_streams;
 use program::{Host, arguments_error, start};
 use std::io::Write;
 use std::process::ExitCode;
@@ -28,6 +33,7 @@ fn read_arguments(rt: &(impl Env + AllocGlobal)) -> io::Result<Vec<String>> {
 }
 
 fn main(rt: HostRuntime) -> ExitCode {
+    let _taken = take_closed_streams(&rt);
     let alloc = rt.alloc();
     let mut errors = rt.stderr().lock();
     let arguments = match read_arguments(&rt) {

@@ -7,13 +7,22 @@ use std::io;
 use std::io::{Read, Write};
 
 /// The magic numbers and byte order marks of such inputs, and what a note says about each.
-const MAGIC_NUMBERS: [(&[u8], &str); 5] = [
+const MAGIC_NUMBERS: [(&[u8], &str); 6] = [
     (b"\x1F\x8B", "compressed (gzip); decompress it first"),
     (b"\x28\xB5/\xFD", "compressed (zstd); decompress it first"),
     (b"\xFD7zXZ\0", "compressed (xz); decompress it first"),
+    (b"\x04\x22M\x18", "compressed (lz4); decompress it first"),
     (b"\xFF\xFE", "encoded (UTF-16); convert it to UTF-8 first"),
     (b"\xFE\xFF", "encoded (UTF-16); convert it to UTF-8 first"),
 ];
+
+/// Returns whether a chunk begins as a file of bzip2: `BZh`, a digit, and the mark of a block.
+fn is_bzip2(chunk: &[u8]) -> bool {
+    match chunk.get(4..) {
+        Some(rest) => chunk.starts_with(b"BZh") && rest.starts_with(b"1AY&SY"),
+        None => false,
+    }
+}
 
 /// Returns what a note says about an input that begins with this chunk.
 fn remark_on(chunk: &[u8]) -> Option<&'static str> {
@@ -21,6 +30,9 @@ fn remark_on(chunk: &[u8]) -> Option<&'static str> {
         if chunk.starts_with(mark) {
             return Some(remark);
         }
+    }
+    if is_bzip2(chunk) {
+        return Some("compressed (bzip2); decompress it first");
     }
     None
 }

@@ -1,20 +1,24 @@
 //! Runs the program on any file system and standard streams.
 ghost use Rattle.std.specs.Prelude.{◌≡◌, ◌<◌, ◌∷◌, [], length, IfOk, OnOk};
 
+mod hint;
 mod output;
 
+use crate::about::About;
 use crate::arguments::{Command, InputSource, Request, Target, UsageError, parse_arguments};
 use crate::error::{OUT_OF_MEMORY, quoted, report_call, shown_name};
-use crate::filtering::{Input, Settings};
-use crate::help::{HELP, VERSION, WAITING};
-use crate::inputs::{SourceReader, source_name};
-use crate::program::output::Filtering;
+use crate::filtering::{Input, Part, Settings};
+use crate::help::WAITING;
+use crate::inputs::{LineReader, STDIN_NAME, SourceReader};
+use crate::program::hint::note_file;
+use crate::program::output::{Filtering, SourceParts};
 use crate::same_file::input_that_is_output;
 use rustc_demangle::Format;
 use std::alloc::{AllocError, Global};
 use std::fs::Files;
 use std::io;
 use std::io::{ErrorKind, IsTerminal, Stdin, Write};
+use std::os::fd::AsFd;
 
 /// The files and streams that the program reads and writes, and its memory.
 #[derive(Drop)]
@@ -67,6 +71,14 @@ fn usage_line(alloc: Global, fault: UsageError<'_>) -> Result<String, AllocError
             let name = option_name(argument, "-o", "--output");
             format!(in alloc; "kodliwe: option '{name}' may be given once; try 'kodliwe --help'\n")
         }
+        UsageError::NoShell => {
+            let line = "kodliwe: option '--completions' needs a SHELL; try 'kodliwe --help'\n";
+            String::from_str(alloc, line)
+        }
+        UsageError::BadShell(name) => {
+            let name = quoted(alloc, name)?;
+            format!(in alloc; "kodliwe: option '--completions': {name} is not bash, zsh or fish\n")
+        }
         UsageError::Memory => Err(AllocError),
     }
 }
@@ -79,10 +91,10 @@ fn report_usage_error<E: Write>(alloc: Global, errors: &mut E, fault: UsageError
     }
 }
 
-/// Writes one text, and returns the status. It is not an error if the reader of the output has
-/// closed it.
-fn write_text<W: Write, E: Write>(alloc: Global, text: &str, output: &mut W, errors: &mut E) -> u8 {
-    match output.write_all(text.as_bytes()) {
+/// Writes a text about the program, and returns the status. It is not an error if the reader of the
+/// output has closed it.
+fn print<W: Write, E: Write>(alloc: Global, about: About, output: &mut W, errors: &mut E) -> u8 {
+    match about.write(output) {
         Ok(()) => 0,
         Err(error) if error.kind() == ErrorKind::BrokenPipe => 0,
         Err(error) => {
@@ -92,22 +104,32 @@ fn write_text<W: Write, E: Write>(alloc: Global, text: &str, output: &mut W, err
     }
 }
 
-/// Returns readers of the sources, in order. Fails if memory can't be allocated.
-fn open_inputs<'a, F: Files>(
+/// Returns the parts of the output that the sources are, in order. An argument after an input
+/// starts a line. Fails if memory can't be allocated.
+fn parts_of<'a, F: Files>(
     alloc: Global,
     files: &'a F,
     stdin: Stdin,
-    sources: Vec<InputSource<'a>>,
-) -> Result<Vec<Input<'a, SourceReader<'a, F>>>, AllocError>
-    ensures { IfOk result (λ inputs. length inputs.items ≡ length sources.entry.items) }
+    sources: &[InputSource<'a>],
+) -> Result<SourceParts<'a, F>, AllocError>
+    ensures { IfOk result (λ parts. length parts.items ≡ length sources.now) }
 {
-    let mut inputs = Vec::new(alloc);
-    for source in sources {
-        let name = source_name(&source);
-        let reader = SourceReader::new(files, stdin, source);
-        inputs.push(Input { name, reader })?;
+    let mut parts = Vec::new(alloc);
+    for (at, source) in sources.iter().enumerate() {
+        let next = sources.get(at.saturating_add(1));
+        let is_before_argument = matches!(next, Some(InputSource::Symbol(_)));
+        let (name, reader) = match source {
+            InputSource::Stdin => (STDIN_NAME, SourceReader::Stdin(stdin)),
+            InputSource::File(path) => (*path, SourceReader::of_file(files, path)),
+            InputSource::Symbol(argument) => {
+                parts.push(Part::Argument(argument))?;
+                continue;
+            }
+        };
+        let reader = LineReader::new(reader, is_before_argument);
+        parts.push(Part::Text(Input { name, reader }))?;
     }
-    Ok(inputs)
+    Ok(parts)
 }
 
 /// Adds standard input if there are no sources. Fails if memory can't be allocated.
@@ -144,26 +166,6 @@ fn write_line<E: Write>(errors: &mut E, line: Result<String, AllocError>) {
         Ok(line) => errors.write_all(line.as_bytes()),
         Err(_) => errors.write_all(OUT_OF_MEMORY.as_bytes()),
     };
-}
-
-/// Returns the note for an argument that names a file. Fails if memory can't be allocated.
-fn file_note(alloc: Global, argument: &str) -> Result<String, AllocError> {
-    let name = quoted(alloc, argument)?;
-    format!(in alloc; "kodliwe: note: {name} is a file; use -i to read it\n")
-}
-
-/// Writes a note if an argument names a regular file.
-fn note_file<F: Files, E: Write>(alloc: Global, files: &F, errors: &mut E, argument: Option<&str>) {
-    let Some(argument) = argument else {
-        return;
-    };
-    let is_file = match files.metadata(argument) {
-        Ok(found) => found.is_file(),
-        Err(_) => false,
-    };
-    if is_file {
-        write_line(errors, file_note(alloc, argument));
-    }
 }
 
 /// Returns the line for an input that is the output. Fails if memory can't be allocated.
@@ -203,11 +205,25 @@ fn read_default<E: Write>(
     Ok(())
 }
 
+/// Returns the output. The names of standard output as a file are standard output too, which keeps
+/// its position.
+fn target_of(output: Option<Target<'_>>) -> Target<'_> {
+    match output {
+        Some(Target::File("/dev/stdout" | "/dev/fd/1" | "/proc/self/fd/1")) | None => {
+            Target::Stdout
+        }
+        Some(target) => target,
+    }
+}
+
 /// Filters the texts that the arguments request, and returns the exit status.
 fn filter<'a, F: Files, W: Write + Drop, E: Write + Drop>(
     host: Host<'a, F, W, E>,
     request: Request<'a>,
-) -> u8 {
+) -> u8
+where
+    F::File: AsFd,
+{
     let Host {
         alloc,
         files,
@@ -216,8 +232,7 @@ fn filter<'a, F: Files, W: Write + Drop, E: Write + Drop>(
         mut errors,
     } = host;
     let settings = settings_of(alloc, &request);
-    let target = request.output.unwrap_or(Target::Stdout);
-    let plain_argument = request.plain_argument;
+    let target = target_of(request.output);
     let mut sources = request.sources;
     if read_default(&stdin, &mut errors, &mut sources).is_err() {
         return report_line(&mut errors, OUT_OF_MEMORY, 1);
@@ -225,12 +240,12 @@ fn filter<'a, F: Files, W: Write + Drop, E: Write + Drop>(
     if target == Target::Stdout && reads_output(alloc, files, &mut errors, sources.as_slice()) {
         return 1;
     }
-    let Ok(inputs) = open_inputs(alloc, files, stdin, sources) else {
+    let Ok(parts) = parts_of(alloc, files, stdin, sources.as_slice()) else {
         return report_line(&mut errors, OUT_OF_MEMORY, 1);
     };
     let filtering = Filtering {
         files,
-        inputs,
+        parts,
         settings,
     };
     let status = match target {
@@ -238,8 +253,7 @@ fn filter<'a, F: Files, W: Write + Drop, E: Write + Drop>(
         Target::File(path) => filtering.write_file(path, &mut errors),
     };
     if status == 0 {
-        // A user who gives an argument without a symbol may have meant a file.
-        note_file(alloc, files, &mut errors, plain_argument);
+        note_file(settings, files, &mut errors, sources.as_slice());
     }
     status
 }
@@ -248,11 +262,13 @@ fn filter<'a, F: Files, W: Write + Drop, E: Write + Drop>(
 pub fn start<'a, F: Files, W: Write + Drop, E: Write + Drop>(
     host: Host<'a, F, W, E>,
     arguments: &'a [String],
-) -> u8 {
+) -> u8
+where
+    F::File: AsFd,
+{
     let request = match parse_arguments(host.alloc, arguments) {
         Ok(Command::Filter(request)) => return filter(host, request),
-        Ok(Command::Help) => Ok(HELP),
-        Ok(Command::Version) => Ok(VERSION),
+        Ok(Command::Print(about)) => Ok(about),
         Err(fault) => Err(fault),
     };
     let Host {
@@ -262,7 +278,7 @@ pub fn start<'a, F: Files, W: Write + Drop, E: Write + Drop>(
         ..
     } = host;
     match request {
-        Ok(text) => write_text(alloc, text, &mut stdout, &mut errors),
+        Ok(about) => print(alloc, about, &mut stdout, &mut errors),
         Err(fault) => report_usage_error(alloc, &mut errors, fault),
     }
 }

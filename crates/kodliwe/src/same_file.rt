@@ -1,6 +1,6 @@
 //! Finds an input that is the file to which standard output writes.
 use crate::arguments::InputSource;
-use crate::inputs::source_name;
+use crate::inputs::STDIN_NAME;
 use std::fs::Files;
 use std::os::unix::fs::MetadataExt;
 
@@ -23,14 +23,9 @@ fn regular_file<F: Files>(files: &F, path: &str) -> Option<FileId> {
     }
 }
 
-/// Returns whether a source is this file.
-fn is_same<F: Files>(files: &F, source: &InputSource<'_>, output: FileId) -> bool {
-    let input = match source {
-        InputSource::Stdin => regular_file(files, "/dev/stdin"),
-        InputSource::File(path) => regular_file(files, path),
-        InputSource::Symbols(_) => None,
-    };
-    match input {
+/// Returns whether the file at a path is this one.
+fn is_same<F: Files>(files: &F, path: &str, output: FileId) -> bool {
+    match regular_file(files, path) {
         Some(input) => input.device == output.device && input.inode == output.inode,
         None => false,
     }
@@ -43,8 +38,13 @@ pub fn input_that_is_output<'a, F: Files>(
 ) -> Option<&'a str> {
     let output = regular_file(files, "/dev/stdout")?;
     for source in sources {
-        if is_same(files, source, output) {
-            return Some(source_name(source));
+        let (path, name) = match source {
+            InputSource::Stdin => ("/dev/stdin", STDIN_NAME),
+            InputSource::File(path) => (*path, *path),
+            InputSource::Symbol(_) => continue,
+        };
+        if is_same(files, path, output) {
+            return Some(name);
         }
     }
     None

@@ -1,13 +1,14 @@
 //! Tests the program's work with readers and writers that fail, and the parsing of arguments. The
 //! filter itself is tested in the library; here its output is the expected value.
 use crate::arguments::{Command, Target, parse_arguments};
-use crate::filtering::{FilterOutcome, Input, Settings, filter_all};
+use crate::filtering::{FilterOutcome, Input, Part, Settings, filter_all};
 use crate::program::{Host, start};
 use rustc_demangle::{Format, demangle_stream_named};
 use std::alloc::{AllocError, Global};
 use std::cell::Cell;
 use std::fs::Files;
 use std::io::{ErrorKind, Read, Stdin, Write};
+use std::os::fd::AsFd;
 use std::process::Abort;
 use std::test::Fail;
 use streams::{CallsWriter, ChunkReader, WatchedWriter, WatchingReader};
@@ -46,10 +47,10 @@ fn run_one<R: Read + Drop, W: Write>(
     include_hash: bool,
 ) -> Result<(FilterOutcome, Vec<u8>), AllocError> {
     let mut inputs = Vec::new(alloc);
-    inputs.push(Input {
+    inputs.push(Part::Text(Input {
         name: "log.txt",
         reader,
-    })?;
+    }))?;
     let mut errors = Vec::new(alloc);
     let settings = Settings {
         alloc,
@@ -108,10 +109,10 @@ fn inputs_are_filtered_each_by_itself(rt: HostRuntime) -> Result<(), Fail> {
     let mut inputs = Vec::new(alloc);
     let texts: [&[u8]; 4] = [b"x _ZN3fo", b"oE\n_ZN3fooE", b"", b"_ZN3barE\n"];
     for text in texts {
-        inputs.push(Input {
+        inputs.push(Part::Text(Input {
             name: "log.txt",
             reader: ChunkReader::new(text, 100),
-        })?;
+        }))?;
     }
     let mut output = Vec::new(alloc);
     let mut errors = Vec::new(alloc);
@@ -147,7 +148,7 @@ fn finished_output_is_flushed_before_more_is_read(rt: HostRuntime) -> Result<(),
     let mut output = WatchedWriter::new(Vec::new(alloc), &is_unflushed);
     let (ended, _) = run_one(alloc, reader, &mut output, false)?;
     assert_eq!(rt; ended, FilterOutcome::Complete);
-    assert_eq!(rt; output.held(), b"foo\nxbar\ny a".as_slice());
+    assert_eq!(rt; output.held(), b"foo\nx_ZN3barE\ny a".as_slice());
     assert!(rt; !is_unflushed.get());
     Ok(())
 }
@@ -170,7 +171,10 @@ fn assert_program<R: Abort + Files>(
     status: u8,
     wanted: &[u8],
     line: &[u8],
-) -> Result<(), Fail> {
+) -> Result<(), Fail>
+where
+    R::File: AsFd,
+{
     let owned = owned_arguments(alloc, arguments)?;
     let mut output = Vec::new(alloc);
     let mut errors = Vec::new(alloc);
@@ -417,6 +421,9 @@ fn assert_request(
     Ok(())
 }
 
+/// Arguments, and the status, the output and the message that they lead to.
+type Case<'a> = (&'a [&'a str], u8, &'a [u8], &'a [u8]);
+
 #[test]
 fn the_argument_after_an_option_is_its_value(rt: HostRuntime) -> Result<(), Fail> {
     let alloc = rt.alloc();
@@ -443,7 +450,7 @@ fn the_argument_after_an_option_is_its_value(rt: HostRuntime) -> Result<(), Fail
         None,
         7,
     )?;
-    let cases: [(&[&str], u8, &[u8], &[u8]); 5] = [
+    let cases: [Case<'_>; 5] = [
         (
             &["-i", "--", "_ZN1aE"],
             1,
@@ -539,7 +546,7 @@ fn the_help_fits_a_terminal(rt: HostRuntime) -> Result<(), Fail> {
         rt.stdin(),
         &["-V"],
         0,
-        crate::help::VERSION.as_bytes(),
+        crate::version::VERSION.as_bytes(),
         b"",
     )?;
     assert_program(
@@ -548,12 +555,65 @@ fn the_help_fits_a_terminal(rt: HostRuntime) -> Result<(), Fail> {
         rt.stdin(),
         &["--version", "-h"],
         0,
-        crate::help::VERSION.as_bytes(),
+        crate::version::VERSION.as_bytes(),
         b"",
     )?;
     for (number, line) in text.lines().enumerate() {
         assert!(rt; line.len() <= 80, "{line}");
         assert!(rt; number < 24, "{line}");
+    }
+    Ok(())
+}
+
+#[test]
+fn the_manual_and_the_completions_are_printed(rt: HostRuntime) -> Result<(), Fail> {
+    use crate::embedded::{BASH, FISH, MANUAL, ZSH};
+    let cases: [(&[&str], &str); 7] = [
+        (&["--man"], MANUAL),
+        (&["_ZN1aE", "--man", "--frob"], MANUAL),
+        (&["--completions", "bash"], BASH),
+        (&["--completions=zsh", "--completions=tcsh"], ZSH),
+        (&["--completions", "fish", "--frob"], FISH),
+        (&["--man", "--completions"], MANUAL),
+        (&["--completions", "fish", "-h"], FISH),
+    ];
+    for (arguments, text) in cases {
+        assert_program(
+            &rt,
+            rt.alloc(),
+            rt.stdin(),
+            arguments,
+            0,
+            text.as_bytes(),
+            b"",
+        )?;
+    }
+    let cases: [(&[&str], &[u8]); 5] = [
+        (
+            &["--completions"],
+            b"kodliwe: option '--completions' needs a SHELL; try 'kodliwe --help'\n",
+        ),
+        (
+            &["--completions", "tcsh"],
+            b"kodliwe: option '--completions': 'tcsh' is not bash, zsh or fish\n",
+        ),
+        (
+            &["--completions="],
+            b"kodliwe: option '--completions': '' is not bash, zsh or fish\n",
+        ),
+        (
+            &["--man=x"],
+            b"kodliwe: unknown option '--man=x'; try 'kodliwe --help'\n",
+        ),
+        (&["--", "--man", "--frob", "-o"], b""),
+    ];
+    for (arguments, line) in cases {
+        let (status, wanted): (u8, &[u8]) = if line.is_empty() {
+            (0, b"--man\n--frob\n-o\n")
+        } else {
+            (2, b"")
+        };
+        assert_program(&rt, rt.alloc(), rt.stdin(), arguments, status, wanted, line)?;
     }
     Ok(())
 }

@@ -5,10 +5,6 @@ ghost use Rattle.std.specs.Prelude.{◌≡◌, ◌+◌, ◌==◌, ◌≤◌, [],
 
 use std::marker::Model;
 
-mod array;
-
-pub use array::PieceArray;
-
 /// The most bytes that the buffer holds. They are on the stack.
 pub const CAPACITY: usize = 2048;
 

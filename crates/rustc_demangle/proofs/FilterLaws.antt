@@ -11,9 +11,10 @@ use Rattle.rustc_demangle.specs.Stripped.{stripped}
 use Rattle.rustc_demangle.specs.Symbols.{IsSymbol, pieces_of, printed}
 use Rattle.rustc_demangle.proofs.SymbolLemmas.{symbol-pieces, pieces-symbol}
 use Rattle.rustc_demangle.specs.Filtered.{by_runs, is_run_byte, starts_run, HasNoStart, StartsOutsideRun, IsRun, IsReplacement, AreReplaced, IsFiltered, replacement, filtered_by, filtered}
+use Rattle.rustc_demangle.proofs.RunStarts.{begins_prefix}
 use Rattle.rustc_demangle.proofs.RunLemmas.{turn, filtered_other, filtered_run, filtered_all, begins_with, first_of_run, replacement-symbol, replacement-no_symbol}
 
-cases : (b : Bool) → (b ≡ true) ⊎ (b ≡ false)
+pub cases : (b : Bool) → (b ≡ true) ⊎ (b ≡ false)
 cases true = inl refl
 cases false = inr refl
 
@@ -24,13 +25,13 @@ begins_append s rest some = let w = begins_with s some in elim (w.1) [
   | inr e ↦ ap (λ l. starts_run (l ++ rest)) e
 ]
 
-shorter : (s rest : List ℕ) → starts_run (s ++ rest) ≡ false → starts_run s ≡ false
+pub shorter : (s rest : List ℕ) → starts_run (s ++ rest) ≡ false → starts_run s ≡ false
 shorter s rest none = elim (cases (starts_run s)) [
   | inl some ↦ absurd (true≢false (sym (begins_append s rest some) ∙ none))
   | inr e ↦ e
 ]
 
-none_in_none : HasNoStart []
+pub none_in_none : HasNoStart []
 none_in_none [] rest e = ap starts_run (sym e)
 none_in_none (b ∷ before) rest e = cc
 
@@ -54,7 +55,7 @@ over_seam c (d ∷ f ∷ p) rest t starts (inl e) =
     (subst (λ x. starts_run (95 ∷ x ∷ f ∷ p) ≡ true) (sym (ap (λ l. get_or l 1 0) e))
     (subst (λ x. starts_run (95 ∷ 90 ∷ x ∷ p) ≡ true) (sym (ap (λ l. get_or l 2 0) e)) refl))
 
-no_start_append : (c : ℕ) (p rest : List ℕ) → starts_run (c ∷ p) ≡ false → Starts rest → starts_run ((c ∷ p) ++ rest) ≡ false
+pub no_start_append : (c : ℕ) (p rest : List ℕ) → starts_run (c ∷ p) ≡ false → Starts rest → starts_run ((c ∷ p) ++ rest) ≡ false
 no_start_append c p rest none starts = elim (cases (starts_run ((c ∷ p) ++ rest))) [
   | inl some ↦ let w = begins_with ((c ∷ p) ++ rest) some in absurd (true≢false (sym (over_seam c p rest w.0 starts w.1) ∙ none))
   | inr e ↦ e
@@ -88,7 +89,7 @@ filtered-run h run following is =
     ∙ ap (λ l. replacement h l ++ filtered h (drop (length run) (run ++ following))) (take-append_seam run following)
     ∙ ap (λ l. replacement h run ++ filtered h l) (drop-append_seam run following)
 
-stands : (h : Bool) (run text : List ℕ) → IsReplacement h run text → text ≡ replacement h run
+pub stands : (h : Bool) (run text : List ℕ) → IsReplacement h run text → text ≡ replacement h run
 stands h run text (inl s) = s.1 ∙ sym (replacement-symbol h run s.0)
 stands h run text (inr s) = s.1 ∙ sym (replacement-no_symbol h run s.0)
 
@@ -108,7 +109,7 @@ runs_only h ((run, kept) ∷ parts) line out is =
 
 pub filtered_only : (h : Bool) (line out : List ℕ) → IsFiltered h line out → out ≡ filtered h line
 filtered_only h line out is =
-    is.available ∙ ap (λ l. is.kept ++ l) (runs_only h is.parts is.rest is.rest_out is.runs)
+    is.output ∙ ap (λ l. is.kept ++ l) (runs_only h is.parts is.rest is.rest_out is.runs)
     ∙ sym (filtered-kept h is.kept is.rest is.no_start (starts_of h is.parts is.rest is.rest_out is.runs)) ∙ sym (ap (filtered h) is.whole)
 
 -- the longest run at the start
@@ -129,25 +130,13 @@ run_stops (c ∷ s) = elim (cases (is_run_byte c)) [
   | inr not ↦ subst (λ n. StartsOutsideRun (drop n (c ∷ s))) (sym (ap (λ b. cond b (1 + prefix_len is_run_byte s) 0) not)) not
 ]
 
-begins_prefix : (s : List ℕ) → starts_run s ≡ true → starts_run (take_while is_run_byte s) ≡ true
-begins_prefix s some = let w = begins_with s some in elim (w.1) [
-  | inl e ↦ subst (λ l. starts_run (take_while is_run_byte l) ≡ true) (sym e) (zn w.0)
-  | inr e ↦ subst (λ l. starts_run (take_while is_run_byte l) ≡ true) (sym e) (r w.0)
-]
-  where
-    zn : (t : List ℕ) → starts_run (take_while is_run_byte (95 ∷ 90 ∷ 78 ∷ t)) ≡ true
-    zn t = ap starts_run (take_while-cons is_run_byte 95 (90 ∷ 78 ∷ t) ∙ ap (λ l. 95 ∷ l) (take_while-cons is_run_byte 90 (78 ∷ t) ∙ ap (λ l. 90 ∷ l) (take_while-cons is_run_byte 78 t)))
-
-    r : (t : List ℕ) → starts_run (take_while is_run_byte (95 ∷ 82 ∷ t)) ≡ true
-    r t = ap starts_run (take_while-cons is_run_byte 95 (82 ∷ t) ∙ ap (λ l. 95 ∷ l) (take_while-cons is_run_byte 82 t))
-
 no_pieces : (h : Bool) (text : List ℕ) → pieces_of h text ≡ None → IsSymbol text → ⊥
 no_pieces h text none symbol = none≢some (sym none ∙ (pieces-symbol (form h false) text symbol).1)
   where
     none≢some : {x : List (List ℕ) × List ℕ} → None ≡ Some x → ⊥
     none≢some e = cc
 
-replaced : (h : Bool) (run : List ℕ) → IsReplacement h run (replacement h run)
+pub replaced : (h : Bool) (run : List ℕ) → IsReplacement h run (replacement h run)
 replaced h run = at (pieces_of h (stripped run)) refl
   where
     at : (read : Option (List (List ℕ) × List ℕ)) → pieces_of h (stripped run) ≡ read
@@ -157,7 +146,7 @@ replaced h run = at (pieces_of h (stripped run)) refl
     at (Some read) e = inl (symbol-pieces (form h false) (stripped run) read e, refl)
 
 nothing : (h : Bool) → IsFiltered h [] []
-nothing h = record { kept = []; rest = []; rest_out = []; parts = []; whole = refl; available = refl; no_start = none_in_none; runs = (refl, refl) }
+nothing h = record { kept = []; rest = []; rest_out = []; parts = []; whole = refl; output = refl; no_start = none_in_none; runs = (refl, refl) }
 
 -- a character at the start, if no run starts there
 keep : (h : Bool) (c : ℕ) (s out : List ℕ) → starts_run (c ∷ s) ≡ false → IsFiltered h s out → IsFiltered h (c ∷ s) (c ∷ out)
@@ -167,7 +156,7 @@ keep h c s out none is = record {
   rest_out = is.rest_out;
   parts = is.parts;
   whole = ap (λ l. c ∷ l) is.whole;
-  available = ap (λ l. c ∷ l) is.available;
+  output = ap (λ l. c ∷ l) is.output;
   no_start = more;
   runs = is.runs;
 }
@@ -176,7 +165,17 @@ keep h c s out none is = record {
     more [] rest e = ap starts_run (sym e) ∙ shorter (c ∷ is.kept) is.rest (ap (λ l. starts_run (c ∷ l)) (sym is.whole) ∙ none)
     more (b ∷ before) rest e = is.no_start before rest (ap (drop 1) e)
 
--- a run at the start
+-- a run at the start, and the text after it
+pub run_at : (c : ℕ) (s : List ℕ) → starts_run (c ∷ s) ≡ true → IsRun (c ∷ take_while is_run_byte s) (drop (prefix_len is_run_byte s) s)
+run_at c s some = record {
+  begins = ap starts_run (sym prefix) ∙ begins_prefix (c ∷ s) some;
+  all = ap (list_all is_run_byte) (sym prefix) ∙ run_all (c ∷ s);
+  longest = run_stops s;
+}
+  where
+    prefix : take_while is_run_byte (c ∷ s) ≡ c ∷ take_while is_run_byte s
+    prefix = take_while-cons is_run_byte c s ∙ ap (λ b. cond b (c ∷ take_while is_run_byte s) []) (ap is_run_byte (first_of_run (c ∷ s) some))
+
 replace : (h : Bool) (c : ℕ) (s out : List ℕ) → starts_run (c ∷ s) ≡ true → IsFiltered h (drop (prefix_len is_run_byte s) s) out
     → IsFiltered h (c ∷ s) (replacement h (c ∷ take_while is_run_byte s) ++ out)
 replace h c s out some is = record {
@@ -185,29 +184,23 @@ replace h c s out some is = record {
   rest_out = replacement h run ++ out;
   parts = (run, is.kept) ∷ is.parts;
   whole = refl;
-  available = refl;
+  output = refl;
   no_start = none_in_none;
-  runs = (is.rest, replacement h run, is.rest_out, whole, ap (λ l. replacement h run ++ l) is.available, is_run_byte', replaced h run, is.no_start, is.runs);
+  runs = (
+    is.rest,
+    replacement h run,
+    is.rest_out,
+    ap (λ l. c ∷ l) (sym (take-append-drop (prefix_len is_run_byte s) s) ∙ ap (λ l. take_while is_run_byte s ++ l) is.whole),
+    ap (λ l. replacement h run ++ l) is.output,
+    subst (IsRun run) is.whole (run_at c s some),
+    replaced h run,
+    is.no_start,
+    is.runs,
+  );
 }
   where
     run : List ℕ
     run = c ∷ take_while is_run_byte s
-
-    first : c ≡ 95
-    first = first_of_run (c ∷ s) some
-
-    prefix : take_while is_run_byte (c ∷ s) ≡ run
-    prefix = take_while-cons is_run_byte c s ∙ ap (λ b. cond b (c ∷ take_while is_run_byte s) []) (ap is_run_byte first)
-
-    whole : c ∷ s ≡ run ++ (is.kept ++ is.rest)
-    whole = ap (λ l. c ∷ l) (sym (take-append-drop (prefix_len is_run_byte s) s) ∙ ap (λ l. take_while is_run_byte s ++ l) is.whole)
-
-    is_run_byte' : IsRun run (is.kept ++ is.rest)
-    is_run_byte' = record {
-      begins = ap starts_run (sym prefix) ∙ begins_prefix (c ∷ s) some;
-      all = ap (list_all is_run_byte) (sym prefix) ∙ run_all (c ∷ s);
-      longest = subst StartsOutsideRun is.whole (run_stops s);
-    }
 
 from : (h : Bool) (skip : ℕ) (s : List ℕ) → IsFiltered h (drop skip s) (filtered_by (replacement h) skip s)
 unfolding by_runs

@@ -1,4 +1,8 @@
 pub mod ByteStreamLemmas
+pub mod CandidateLemmas
+pub mod CoalescingLemmas
+pub mod RunStarts
+pub mod RewritingLaws
 pub mod LineFeedLaws
 pub mod LineFeeds
 pub mod FilterLaws

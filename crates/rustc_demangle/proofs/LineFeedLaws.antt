@@ -176,15 +176,15 @@ line_feeds-joined : (elements : List (List ℕ)) → line_feeds (concat (joined_
 line_feeds-joined [] = omega arith
 line_feeds-joined (e ∷ es) = omega (arith, line_feeds-unescaped e, line_feeds-continued es, line_feeds-cons e es, line_feeds-concat (unescaped e) (following_pieces es))
 
-line_feeds-available : (hash : Bool) (elements : List (List ℕ)) → line_feeds (concat (printed_elements hash elements)) ≤ line_feeds (concat elements)
+line_feeds-printed : (hash : Bool) (elements : List (List ℕ)) → line_feeds (concat (printed_elements hash elements)) ≤ line_feeds (concat elements)
 unfolding printed_elements
-line_feeds-available hash [] = omega arith
-line_feeds-available hash (e ∷ []) = at (not hash && is_hash e)
+line_feeds-printed hash [] = omega arith
+line_feeds-printed hash (e ∷ []) = at (not hash && is_hash e)
   where
     at : (b : Bool) → line_feeds (concat (cond b [] (e ∷ []))) ≤ line_feeds (concat (e ∷ []))
     at true = omega arith
     at false = omega arith
-line_feeds-available hash (e ∷ f ∷ es) = omega (arith, line_feeds-available hash (f ∷ es), line_feeds-cons e (f ∷ es), line_feeds-cons e (printed_elements hash (f ∷ es)))
+line_feeds-printed hash (e ∷ f ∷ es) = omega (arith, line_feeds-printed hash (f ∷ es), line_feeds-cons e (f ∷ es), line_feeds-cons e (printed_elements hash (f ∷ es)))
 
 line_feeds-elements : (elements : List (List ℕ)) (text suffix : List ℕ) → IsElements elements text suffix → line_feeds (concat elements) + line_feeds suffix ≤ line_feeds text
 line_feeds-elements [] text suffix is = omega (arith, ap line_feeds is)
@@ -193,9 +193,9 @@ line_feeds-elements (element ∷ elements) text suffix is =
 
 -- the pieces of a legacy symbol
 line_feeds-legacy : (hash : Bool) (text : List ℕ) (elements : List (List ℕ)) (suffix : List ℕ) → IsLegacy text elements suffix
-    → line_feeds (concat (legacy_pieces hash elements)) + line_feeds suffix ≤ line_feeds text
+    → line_feeds (concat (legacy_pieces (form hash false) elements)) + line_feeds suffix ≤ line_feeds text
 line_feeds-legacy hash text elements suffix is =
-    omega (arith, line_feeds-joined (printed_elements hash elements), line_feeds-available hash elements, line_feeds-elements elements is.1 suffix is.5, ap line_feeds is.2, line_feeds-append is.0 is.1)
+    omega (arith, line_feeds-joined (printed_elements hash elements), line_feeds-printed hash elements, line_feeds-elements elements is.1 suffix is.5, ap line_feeds is.2, line_feeds-append is.0 is.1)
 
 read_of : Option (List (List ℕ) × List ℕ) → List (List ℕ) × List ℕ
 read_of None = ([], [])
@@ -208,7 +208,7 @@ unfolding read_of
 line_feeds-symbol hash text read e none = go (symbol-pieces (form hash false) text read e) where
   go : IsSymbol text → (line_feeds (concat read.0) ≡ 0) × (line_feeds read.1 ≡ 0)
   go (inl (elements, suffix, legacy, allowed)) =
-      let same : read ≡ (legacy_pieces hash elements, suffix) = ap read_of (sym e ∙ pieces-legacy (form hash false) text elements suffix (legacy_spelled text elements suffix legacy) allowed) in
+      let same : read ≡ (legacy_pieces (form hash false) elements, suffix) = ap read_of (sym e ∙ pieces-legacy (form hash false) text elements suffix (legacy_spelled text elements suffix legacy) allowed) in
       let bound = line_feeds-legacy hash text elements suffix legacy in
       (omega (arith, none, bound, ap (λ r. line_feeds (concat r.0)) same), omega (arith, none, bound, ap (λ r. line_feeds r.1) same))
   go (inr (inner, suffix, v0, allowed)) =
@@ -240,7 +240,7 @@ line_feeds-stripped (c ∷ s) = at (line_feeds-stripped s) (starts_with nat_eq (
     at following false d = omega (arith, following)
 
 -- the replacement of a run without line feeds has none
-line_feeds-replacement : (h : Bool) (run : List ℕ) → line_feeds run ≡ 0 → line_feeds (replacement h run) ≡ 0
+pub line_feeds-replacement : (h : Bool) (run : List ℕ) → line_feeds run ≡ 0 → line_feeds (replacement h run) ≡ 0
 line_feeds-replacement h run none = at (pieces_of h (stripped run))
   where
     at : (read : Option (List (List ℕ) × List ℕ)) → line_feeds (option_map_or (λ _. printed (stripped run) h) read run) ≡ 0
@@ -248,7 +248,7 @@ line_feeds-replacement h run none = at (pieces_of h (stripped run))
     at (Some read) = line_feeds-handed (stripped run) h most_bytes (omega (arith, none, line_feeds-stripped run))
 
 -- run bytes are not line feeds
-line_feeds-run : (run : List ℕ) → list_all is_run_byte run ≡ true → line_feeds run ≡ 0
+pub line_feeds-run : (run : List ℕ) → list_all is_run_byte run ≡ true → line_feeds run ≡ 0
 line_feeds-run [] all = refl
 line_feeds-run (c ∷ run) all = at (line_feeds-run run) (is_run_byte c) refl all
   where

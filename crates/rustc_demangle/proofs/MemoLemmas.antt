@@ -1,10 +1,13 @@
 -- The text that a memo writes for a run.
-use Rattle.std.proofs.Common.{◌≡◌, ℕ, List, ap, sym, subst, ◌∙◌}
+use Rattle.std.proofs.Common.{◌≡◌, ℕ, List, [], Some, IfSome, Result, OnOk, IfErr, ap, sym, subst, ◌∙◌}
+use Rattle.std.specs.Io.KnownBytes.{Appends}
 use Rattle.std.specs.List.{concat}
-use Rattle.rustc_demangle.specs.Filtered.{replacement_in, filtered_in}
+use Rattle.rustc_demangle.specs.Filtered.{replacement_in}
+use Rattle.rustc_demangle.specs.Rewritten.{rewritten_after, rewritten_in}
 use Rattle.rustc_demangle.specs.Stripped.{stripped}
 use Rattle.std.specs.declared.option.Option.{Option}
-use Rattle.rustc_demangle.specs.ByteStream.{StepFiltered, StepFinished}
+use Rattle.rustc_demangle.specs.ByteStream.{Unwritten, from_start, StepFiltered, StepFinished, BytesStopped}
+use Rattle.rustc_demangle.specs.declared.stream.fault.StreamFault.{StreamFault}
 use Rattle.rustc_demangle.specs.Symbols.{handed_in, IsSymbol}
 use Rattle.rustc_demangle.specs.declared.format.Format.{Format}
 use Rattle.rustc_demangle.proofs.RunLemmas.{replacement_in-symbol, replacement_in-no_symbol}
@@ -23,10 +26,19 @@ pub at_value : (run text : List ℕ) (format value : Format) → format ≡ valu
 at_value run text format value same is = subst (λ (v : Format). text ≡ replacement_in v run) same is
 
 -- a step with a memo of the same value
-pub took_same : (m n : Format) (pending next : List ℕ) (left rest old new : Option (List ℕ)) → m ≡ n → StepFiltered (filtered_in m) pending next left rest old new
-    → StepFiltered (filtered_in n) pending next left rest old new
-took_same m n pending next left rest old new same = subst (λ (v : Format). StepFiltered (filtered_in v) pending next left rest old new) same
+pub took_same : (m n : Format) (pending next : Unwritten) (left rest old new : Option (List ℕ)) → m ≡ n → StepFiltered (rewritten_after m) pending next left rest old new
+    → StepFiltered (rewritten_after n) pending next left rest old new
+took_same m n pending next left rest old new same = subst (λ (v : Format). StepFiltered (rewritten_after v) pending next left rest old new) same
 
-pub ended_same : (m n : Format) (pending next : List ℕ) (left rest old new : Option (List ℕ)) → m ≡ n → StepFinished (filtered_in m) pending next left rest old new
-    → StepFinished (filtered_in n) pending next left rest old new
-ended_same m n pending next left rest old new same = subst (λ (v : Format). StepFinished (filtered_in v) pending next left rest old new) same
+pub ended_same : (m n : Format) (pending next : Unwritten) (left rest old new : Option (List ℕ)) → m ≡ n → StepFinished (rewritten_after m) pending next left rest old new
+    → StepFinished (rewritten_after n) pending next left rest old new
+ended_same m n pending next left rest old new same = subst (λ (v : Format). StepFinished (rewritten_after v) pending next left rest old new) same
+
+-- a whole input with a memo of the same value
+pub whole_same : (m n : Format) (r : Result (Unit {0}) StreamFault) (held left old new : Option (List ℕ)) → m ≡ n
+    → OnOk r (IfSome held (λ text. (left ≡ Some []) × Appends old new (rewritten_in m text))) → OnOk r (IfSome held (λ text. (left ≡ Some []) × Appends old new (rewritten_in n text)))
+whole_same m n r held left old new same = subst (λ (v : Format). OnOk r (IfSome held (λ text. (left ≡ Some []) × Appends old new (rewritten_in v text)))) same
+
+pub stopped_same : (m n : Format) (r : Result (Unit {0}) StreamFault) (held old new : Option (List ℕ)) → m ≡ n
+    → IfErr r (λ fault. IfSome held (λ text. BytesStopped (rewritten_after m) fault (from_start text) old new)) → IfErr r (λ fault. IfSome held (λ text. BytesStopped (rewritten_after n) fault (from_start text) old new))
+stopped_same m n r held old new same = subst (λ (v : Format). IfErr r (λ fault. IfSome held (λ text. BytesStopped (rewritten_after v) fault (from_start text) old new))) same

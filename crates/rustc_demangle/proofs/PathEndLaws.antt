@@ -45,7 +45,7 @@ v0_prefix-len p (inr (inr e)) = let len : length p ≡ 3 = ap length e in omega 
 -- a symbol has a path before its suffix
 pub path_len_positive : (text : List ℕ) → IsSymbol text → 0 < path_len_of text
 path_len_positive text (inl (elements, suffix, legacy, allowed)) =
-    let len = path_len-some text (legacy_pieces true elements) suffix (pieces-legacy (form true false) text elements suffix (legacy_spelled text elements suffix legacy) allowed) in
+    let len = path_len-some text (legacy_pieces (form true false) elements) suffix (pieces-legacy (form true false) text elements suffix (legacy_spelled text elements suffix legacy) allowed) in
     let below : length suffix ≤ length legacy.1 = elements-shorter elements legacy.1 suffix legacy.5 in
     let prefix : 0 < length legacy.0 = legacy_prefix-len legacy.0 legacy.3 in
     omega (arith, len, below, prefix, ap length legacy.2, length-append legacy.0 legacy.1)

@@ -45,23 +45,23 @@ size-handed text format pieces suffix e =
     omega (arith, ap size (handed-some_of text format (pieces, suffix) e), size-append (cut pieces format.limit) (suffix ∷ []), size-cut pieces format.limit)
 
 -- with the hash, all elements are printed
-available-all : (elements : List (List ℕ)) → printed_elements true elements ≡ elements
+printed-all : (elements : List (List ℕ)) → printed_elements true elements ≡ elements
 unfolding printed_elements
-available-all [] = refl
-available-all (e ∷ []) = refl
-available-all (e ∷ f ∷ es) = ap (λ xs. e ∷ xs) (available-all (f ∷ es))
+printed-all [] = refl
+printed-all (e ∷ []) = refl
+printed-all (e ∷ f ∷ es) = ap (λ xs. e ∷ xs) (printed-all (f ∷ es))
 
 -- without the hash, all elements, or all except a last one that is a hash
-available-cases : (elements : List (List ℕ)) → (printed_elements false elements ≡ elements)
+printed-cases : (elements : List (List ℕ)) → (printed_elements false elements ≡ elements)
     ⊎ ((prefix : List (List ℕ)) × (last : List ℕ) × (elements ≡ prefix ++ last ∷ []) × (printed_elements false elements ≡ prefix) × (is_hash last ≡ true))
 unfolding printed_elements
-available-cases [] = inl refl
-available-cases (e ∷ []) = go (is_hash e) refl where
+printed-cases [] = inl refl
+printed-cases (e ∷ []) = go (is_hash e) refl where
   go : (b : Bool) → is_hash e ≡ b → (cond b [] (e ∷ []) ≡ e ∷ [])
       ⊎ ((prefix : List (List ℕ)) × (last : List ℕ) × (e ∷ [] ≡ prefix ++ last ∷ []) × (cond b [] (e ∷ []) ≡ prefix) × (is_hash last ≡ true))
   go true is = inr ([], e, refl, refl, is)
   go false is = inl refl
-available-cases (e ∷ f ∷ es) = elim (available-cases (f ∷ es)) [
+printed-cases (e ∷ f ∷ es) = elim (printed-cases (f ∷ es)) [
   | inl same ↦ inl (ap (λ xs. e ∷ xs) same)
   | inr h ↦ inr (e ∷ h.0, h.1, ap (λ xs. e ∷ xs) h.2, ap (λ xs. e ∷ xs) h.3, h.4)
 ]
@@ -74,16 +74,16 @@ joined-last (e ∷ es) last =
     ∙ sym (append_assoc (unescaped e) (following_pieces es) (codes "::" ∷ unescaped last))
 
 pub hash-last : (text : List ℕ) (elements : List (List ℕ)) (suffix : List ℕ) (limit : ℕ) → IsLegacy text elements suffix → is_allowed suffix ≡ true
-    → size (legacy_pieces true elements) ≤ limit → (handed text false limit ≡ handed text true limit) ⊎ OmitsHash text elements suffix limit
+    → size (legacy_pieces (form true false) elements) ≤ limit → (handed text false limit ≡ handed text true limit) ⊎ OmitsHash text elements suffix limit
 hash-last text elements suffix limit legacy allowed within =
     let read : legacy_of text ≡ Some (elements, suffix) = legacy_spelled text elements suffix legacy in
-    let all : legacy_pieces true elements ≡ joined_pieces elements = ap joined_pieces (available-all elements) in
+    let all : legacy_pieces (form true false) elements ≡ joined_pieces elements = ap joined_pieces (printed-all elements) in
     let full : handed text true limit ≡ joined_pieces elements ++ suffix ∷ [] =
-    handed-some_of text (unfolded true limit) (legacy_pieces true elements, suffix) (pieces-legacy (form true false) text elements suffix read allowed)
-    ∙ ap (λ xs. xs ++ suffix ∷ []) (cut-within (legacy_pieces true elements) limit within ∙ all) in
+    handed-some_of text (unfolded true limit) (legacy_pieces (form true false) elements, suffix) (pieces-legacy (form true false) text elements suffix read allowed)
+    ∙ ap (λ xs. xs ++ suffix ∷ []) (cut-within (legacy_pieces (form true false) elements) limit within ∙ all) in
     let short : handed text false limit ≡ cut (joined_pieces (printed_elements false elements)) limit ++ suffix ∷ [] =
-    handed-some_of text (unfolded false limit) (legacy_pieces false elements, suffix) (pieces-legacy (form false false) text elements suffix read allowed) in
-    elim (available-cases elements) [
+    handed-some_of text (unfolded false limit) (legacy_pieces (form false false) elements, suffix) (pieces-legacy (form false false) text elements suffix read allowed) in
+    elim (printed-cases elements) [
       | inl same ↦ inl (short ∙ ap (λ es. cut (joined_pieces es) limit ++ suffix ∷ []) same
           ∙ ap (λ xs. xs ++ suffix ∷ []) (cut-within (joined_pieces elements) limit (subst (λ xs. size xs ≤ limit) all within)) ∙ sym full)
       | inr h ↦

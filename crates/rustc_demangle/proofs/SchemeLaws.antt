@@ -21,7 +21,7 @@ kept_by : (text : List ℕ) (format : Format) (read : List (List ℕ) × List �
 kept_by text format read e = ap (λ o. option_map_or (λ (r : List (List ℕ) × List ℕ). kept r.0 format.limit) o 0) e
 
 pieces_spelled : (form : Form) (text : List ℕ) (elements : List (List ℕ)) (suffix : List ℕ) → IsLegacy text elements suffix → is_allowed suffix ≡ true
-    → pieces_in form text ≡ Some (legacy_pieces form.include_hash elements, suffix)
+    → pieces_in form text ≡ Some (legacy_pieces form elements, suffix)
 pieces_spelled form text elements suffix is allowed = pieces-legacy form text elements suffix (legacy_spelled text elements suffix is) allowed
 
 pieces_rendered : (form : Form) (text inner suffix : List ℕ) → IsV0 text inner suffix → is_allowed suffix ≡ true
@@ -29,14 +29,14 @@ pieces_rendered : (form : Form) (text inner suffix : List ℕ) → IsV0 text inn
 pieces_rendered form text inner suffix is allowed = pieces-v0 form text inner suffix (v0_is_read text inner suffix is) allowed
 
 pub legacy-handed : (text : List ℕ) (elements : List (List ℕ)) (suffix : List ℕ) (format : Format) → IsLegacy text elements suffix → is_allowed suffix ≡ true
-    → handed_in text format ≡ cut (legacy_pieces format.include_hash elements) format.limit ++ suffix ∷ []
+    → handed_in text format ≡ cut (legacy_pieces (form_of format) elements) format.limit ++ suffix ∷ []
 legacy-handed text elements suffix format is allowed =
-    handed_of text format (legacy_pieces format.include_hash elements, suffix) (pieces_spelled (form_of format) text elements suffix is allowed)
+    handed_of text format (legacy_pieces (form_of format) elements, suffix) (pieces_spelled (form_of format) text elements suffix is allowed)
 
 pub legacy-kept : (text : List ℕ) (elements : List (List ℕ)) (suffix : List ℕ) (format : Format) → IsLegacy text elements suffix → is_allowed suffix ≡ true
-    → kept_in text format ≡ kept (legacy_pieces format.include_hash elements) format.limit
+    → kept_in text format ≡ kept (legacy_pieces (form_of format) elements) format.limit
 legacy-kept text elements suffix format is allowed =
-    kept_by text format (legacy_pieces format.include_hash elements, suffix) (pieces_spelled (form_of format) text elements suffix is allowed)
+    kept_by text format (legacy_pieces (form_of format) elements, suffix) (pieces_spelled (form_of format) text elements suffix is allowed)
 
 pub v0-handed : (text inner suffix : List ℕ) (format : Format) → IsV0 text inner suffix → is_allowed suffix ≡ true
     → handed_in text format ≡ cut (path_texts inner (form_of format)) format.limit ++ suffix ∷ []

@@ -82,7 +82,7 @@ length-concat (piece ∷ pieces) = omega (arith, length-append piece (concat pie
 pub size_symbol_in : (text : List ℕ) (format : Format) → IsSymbol text → size (handed_in text format) ≤ format.limit + 20 + length text
 size_symbol_in text format (inl (elements, suffix, legacy, allowed)) =
     let read = legacy_spelled text elements suffix legacy in
-    omega (arith, size-handed text format (legacy_pieces format.include_hash elements) suffix (pieces-legacy (form_of format) text elements suffix read allowed), suffix-shorter text elements suffix read)
+    omega (arith, size-handed text format (legacy_pieces (form_of format) elements) suffix (pieces-legacy (form_of format) text elements suffix read allowed), suffix-shorter text elements suffix read)
 size_symbol_in text format (inr (inner, suffix, v0, allowed)) =
     let read = v0_is_read text inner suffix v0 in
     omega (arith, size-handed text format (path_texts inner (form_of format)) suffix (pieces-v0 (form_of format) text inner suffix read allowed), v0_suffix-shorter text inner suffix read)

@@ -46,17 +46,17 @@ no_legacy text inner suffix is = legacy_no_prefix text (sym (ap inner_of is.1 �
   go prefix (inr (inr e)) = ap (λ p. inner_of (p ++ inner)) e
 
 abbrev legacy_parts : Form → List (List ℕ) × List ℕ → List (List ℕ) × List ℕ
-legacy_parts form read = (legacy_pieces form.include_hash read.0, read.1)
+legacy_parts form read = (legacy_pieces form read.0, read.1)
 
 abbrev v0_parts : Form → List ℕ × List ℕ → List (List ℕ) × List ℕ
 v0_parts form read = (path_texts read.0 form, read.1)
 
 -- the pieces of a legacy symbol
 pub pieces-legacy : (form : Form) (text : List ℕ) (elements : List (List ℕ)) (suffix : List ℕ) → legacy_of text ≡ Some (elements, suffix) → is_allowed suffix ≡ true
-    → pieces_in form text ≡ Some (legacy_pieces form.include_hash elements, suffix)
+    → pieces_in form text ≡ Some (legacy_pieces form elements, suffix)
 pieces-legacy form text elements suffix e allowed =
     ap (λ read. if_allowed (option_or (option_map (legacy_parts form) read) (option_map (v0_parts form) (v0_of text)))) e
-    ∙ ap (λ b. cond b (Some (legacy_pieces form.include_hash elements, suffix)) None) allowed
+    ∙ ap (λ b. cond b (Some (legacy_pieces form elements, suffix)) None) allowed
 
 -- the pieces of a v0 symbol
 pub pieces-v0 : (form : Form) (text inner suffix : List ℕ) → v0_of text ≡ Some (inner, suffix) → is_allowed suffix ≡ true
@@ -75,7 +75,7 @@ no_pieces form text legacy v0 =
 pub no_pieces-legacy : (form : Form) (text : List ℕ) (elements : List (List ℕ)) (suffix : List ℕ) → legacy_of text ≡ Some (elements, suffix) → is_allowed suffix ≡ false → pieces_in form text ≡ None
 no_pieces-legacy form text elements suffix e other =
     ap (λ read. if_allowed (option_or (option_map (legacy_parts form) read) (option_map (v0_parts form) (v0_of text)))) e
-    ∙ ap (λ b. cond b (Some (legacy_pieces form.include_hash elements, suffix)) None) other
+    ∙ ap (λ b. cond b (Some (legacy_pieces form elements, suffix)) None) other
 
 pub no_pieces-v0 : (form : Form) (text inner suffix : List ℕ) → v0_of text ≡ Some (inner, suffix) → is_allowed suffix ≡ false → pieces_in form text ≡ None
 no_pieces-v0 form text inner suffix e other =
@@ -101,7 +101,7 @@ symbol-pieces form text r e = let h = allowed-some (read_in form text) r e in go
 -- a symbol has pieces
 pub pieces-symbol : (form : Form) (text : List ℕ) → IsSymbol text → (r : List (List ℕ) × List ℕ) × (pieces_in form text ≡ Some r)
 pieces-symbol form text (inl (elements, suffix, legacy, allowed)) =
-    ((legacy_pieces form.include_hash elements, suffix), pieces-legacy form text elements suffix (legacy_spelled text elements suffix legacy) allowed)
+    ((legacy_pieces form elements, suffix), pieces-legacy form text elements suffix (legacy_spelled text elements suffix legacy) allowed)
 pieces-symbol form text (inr (inner, suffix, v0, allowed)) =
     ((path_texts inner form, suffix), pieces-v0 form text inner suffix (v0_is_read text inner suffix v0) allowed)
 
@@ -155,7 +155,7 @@ styled_looks text format style suffix old new has grows most least = record {
   most = omega (arith, most, style_looks-most text format style suffix has);
   legacy = λ legacy. omega (arith, most, style_looks-legacy text format style suffix has legacy);
   v0 = λ v0. omega (arith, least, style_least-v0 text style suffix has v0);
-  after_error = λ none. absurd (none (symbol_styled text style suffix has));
+  no_symbol = λ none. absurd (none (symbol_styled text style suffix has));
 }
 
 pub unstyled_looks : (text : List ℕ) (format : Format) (looks : ℕ) → HasNoStyle text → PrintingLooksIn text format looks looks
@@ -164,7 +164,7 @@ unstyled_looks text format looks none = record {
   most = omega arith;
   legacy = λ legacy. omega arith;
   v0 = λ v0. absurd (no_symbol_unstyled text none (inr v0));
-  after_error = λ _. refl;
+  no_symbol = λ _. refl;
 }
 
 pub styled_symbol : (style : Option DemangleStyle) (text suffix : List ℕ) → IsStyled style text suffix → is_some style ≡ true → IsSymbol text

@@ -51,7 +51,7 @@ pub record IsFiltered (hash : Bool) (line out : List ℕ) : Type 0 where
   pub rest_out : List ℕ
   pub parts : List (List ℕ × List ℕ)
   pub whole : line ≡ kept ++ rest
-  pub available : out ≡ kept ++ rest_out
+  pub output : out ≡ kept ++ rest_out
   pub no_start : HasNoStart kept
   pub runs : AreReplaced hash parts rest rest_out
 

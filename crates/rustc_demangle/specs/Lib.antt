@@ -6,6 +6,7 @@ pub mod Hashes
 pub mod Lines
 pub mod Filtered
 pub mod TextPieces
+pub mod Rewritten
 pub mod LineStream
 pub mod ByteStream
 -- and of demangle_sink
@@ -38,3 +39,5 @@ pub use Rattle.demangle_v0_grammar.specs.V0
 pub use Rattle.demangle_v0_grammar.specs.ValidationLooks
 -- Internal.
 pub mod Style
+pub mod PutsText
+pub mod Coalescing

@@ -13,7 +13,7 @@ use Rattle.demangle_v0_grammar.specs.V0.{v0_of}
 
 -- the pieces of a symbol of this style
 abbrev pub style_pieces : Form → DemangleStyle → List (List ℕ)
-style_pieces form (Legacy symbol) = legacy_pieces form.include_hash (elements_of symbol)
+style_pieces form (Legacy symbol) = legacy_pieces form (elements_of symbol)
 style_pieces form (V0 symbol) = path_texts symbol form
 
 -- the number of bytes after the prefix

@@ -30,7 +30,7 @@ if_allowed (Some (x, suffix)) = if is_allowed suffix then Some (x, suffix) else 
 -- The pieces and the suffix of a text in the scheme that accepts it, in a form. The arguments of a legacy symbol are
 -- parts of names, so only a v0 symbol has arguments to fold. No text has a prefix of both schemes.
 abbrev pub read_in : Form → List ℕ → Option (List (List ℕ) × List ℕ)
-read_in form text = option_or (option_map (λ read. (legacy_pieces form.include_hash read.0, read.1)) (legacy_of text))
+read_in form text = option_or (option_map (λ read. (legacy_pieces form read.0, read.1)) (legacy_of text))
     (option_map (λ read. (path_texts read.0 form, read.1)) (v0_of text))
 
 -- the pieces and the suffix of a symbol, in a form
@@ -77,7 +77,7 @@ pub record PrintingLooksIn (text : List ℕ) (format : Format) (old new : ℕ) :
   pub most : new ≤ old + 100000 * (kept_in text format + 1) * (length text + 1)
   pub legacy : IsLegacySymbol text → new ≤ old + 16 * (length text + 1)
   pub v0 : IsV0Symbol text → old + 1 ≤ new
-  pub after_error : (IsSymbol text → ⊥) → new ≡ old
+  pub no_symbol : (IsSymbol text → ⊥) → new ≡ old
 
 abbrev pub PrintingLooks : List ℕ → Bool → ℕ → ℕ → ℕ → Type 0
 PrintingLooks text hash limit old new = PrintingLooksIn text (unfolded hash limit) old new

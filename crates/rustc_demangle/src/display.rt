@@ -3,12 +3,16 @@ ghost use Rattle.std.specs.Prelude.{Some, true, not};
 ghost use Rattle.std.specs.Fmt.{DisplaysOnOk, WritesStyledOnOk, formatter_spec, spec_alternate};
 ghost use Rattle.rustc_demangle.specs.Symbols.{printed};
 
+use crate::coalescing::write_coalesced;
 use crate::value::Demangle;
 use demangle_sink::FmtSink;
 use std::fmt;
 
 /// Prints with the hash, and with `{:#}` without it. Width, fill, sign and precision have no
-/// effect. Fails if the formatter rejects a piece.
+/// effect.
+///
+/// The formatter gets several pieces of the text at once. Fails if it rejects a part. It then got a
+/// prefix of the text.
 impl fmt::Display for Demangle<'_> {
     ghost output = { λ symbol. Some (printed symbol true) };
 
@@ -17,7 +21,7 @@ impl fmt::Display for Demangle<'_> {
     fn fmt<W: fmt::Write>(&self, f: &mut fmt::Formatter<W>) -> fmt::Result {
         let include_hash = !f.alternate();
         let mut sink = FmtSink::new(f);
-        match self.write_to(&mut sink, include_hash) {
+        match write_coalesced(self, &mut sink, include_hash) {
             Ok(()) => Ok(()),
             Err(_) => Err(fmt::Error),
         }

@@ -1,7 +1,9 @@
 //! The format in which symbols are printed.
 
 ghost use Rattle.std.specs.Prelude.{◌≡◌};
-ghost use Rattle.rustc_demangle.specs.Symbols.{folded, unfolded};
+ghost use Rattle.rustc_demangle.specs.Symbols.{folded, form_of, unfolded};
+
+use demangle_symbol::form::Form;
 
 /// How a symbol is printed.
 ///
@@ -41,6 +43,17 @@ impl Format {
             include_hash,
             fold_arguments: true,
             limit,
+        }
+    }
+
+    /// Returns the format without its limit.
+    #[inline(always)]
+    pub(crate) fn form(self) -> Form
+        ensures { result ≡ form_of self }
+    {
+        Form {
+            include_hash: self.include_hash,
+            fold_arguments: self.fold_arguments,
         }
     }
 }

@@ -5,6 +5,8 @@ ghost use Rattle.std.specs.Prelude.{◌≡◌, ◌+◌, ◌-◌, ◌*◌, ◌≤
 ghost use Rattle.rustc_demangle.specs.Stripped.{stripped};
 ghost use Rattle.rustc_demangle.specs.Symbols.{IsSymbol};
 
+mod byte_before;
+mod coalescing;
 mod display;
 mod format;
 pub mod laws;
@@ -17,6 +19,7 @@ mod strip;
 mod text;
 mod value;
 
+pub use byte_before::plain_len;
 pub use demangle_symbol::cursor::Looks;
 pub use format::Format;
 pub use runs::{run_len, run_start};

@@ -1,21 +1,15 @@
 //! Prints the v0 runs of bytes in memory before it is known which of them are symbols.
-ghost use Rattle.std.specs.Prelude.{◌≡◌, ◌+◌, ◌≤◌, ◌-◌, [], ◌++◌, length, Some, Ok, true, false, IsTrue, IsFalse};
+ghost use Rattle.std.specs.Prelude.{◌≡◌, ◌+◌, ◌*◌, ◌≤◌, length, take, Ok, true, false, IsTrue, IsFalse, IfSome};
 ghost use Rattle.std.specs.List.{list_all};
-ghost use Rattle.std.proofs.Common.{sym, ap, ◌∙◌};
-ghost use Rattle.std.proofs.lemmas.List.{append-nil, append_assoc};
-ghost use Rattle.demangle_sink.specs.PutsPieces.{PutsPieces};
 ghost use Rattle.rustc_demangle.specs.Filtered.{is_run_byte, replacement_in};
-ghost use Rattle.rustc_demangle.specs.TextPieces.{run_pieces};
-ghost use Rattle.rustc_demangle.specs.declared.printed_first.TheConstants.{TEXT_SIZE};
+ghost use Rattle.rustc_demangle.specs.PutsText.{PutsText};
 
 use crate::format::Format;
-use crate::strip::without_thin_lto;
 use crate::text::put_run;
-use crate::value::is_allowed;
-use demangle_sink::{SinkRefused, SizeLimitedFmtAdapter, SliceSink, TextSink, put_piece};
+use crate::value::printing::print_v0_run;
+use demangle_sink::{SinkRefused, SliceSink, TextSink};
 use demangle_symbol::cursor::Looks;
 use memchr::memchr;
-use piece_buffer::PieceArray;
 
 #[cfg(test)]
 mod tests;
@@ -39,54 +33,6 @@ static ONES: [u8; 32] = *b"1098765432109876543210987654321 ";
 
 /// The digits before those.
 static TENS: [u8; 32] = *b"3322222222221111111111000000000 ";
-
-/// A sink that keeps a short text. It fails if it has no room for a piece.
-#[derive(Drop)]
-struct ShortText {
-    held: PieceArray<TEXT_SIZE>,
-    failed: bool,
-}
-
-impl ShortText {
-    /// Returns an empty sink that has not failed.
-    #[inline(always)]
-    fn new() -> Self
-        ensures empty { result.held ≡ [] }
-        ensures not_failed { result.failed ≡ false }
-    {
-        ShortText {
-            held: PieceArray::new(),
-            failed: false,
-        }
-    }
-}
-
-impl TextSink for ShortText {
-    ghost took = { λ s bytes t. t.held ≡ s.held ++ bytes };
-
-    ghost failed = { λ s. s.failed };
-
-    ghost room = { λ s. Some (TEXT_SIZE - length s.held) };
-
-    ghost keeps = { true };
-
-    #[inline(always)]
-    fn put(&mut self, s: &str) -> Result<(), SinkRefused> {
-        if self.held.push(s.as_bytes()) {
-            return Ok(());
-        }
-        self.failed = true;
-        Err(SinkRefused)
-    }
-
-    fn is_failed(&self) -> bool {
-        self.failed
-    }
-
-    ghost took_nothing = { λ s. sym (append-nil s.held) };
-
-    ghost took_joined = { λ s t u xs ys h k. k ∙ (ap (λ z. z ++ ys) h ∙ append_assoc s.held xs ys) };
-}
 
 /// Returns whether these bytes may begin a part that takes far longer to print than to validate: a
 /// name in Punycode of ten bytes or more, or a binder of two lifetimes or more.
@@ -205,51 +151,49 @@ fn text_limit(run: &str, format: Format) -> usize
     format.limit.min(most)
 }
 
-/// Prints a run that is a v0 symbol, as `value::printing::print_v0_run` does, with fuel for its
-/// steps and a lower limit. Returns `false` if the run is not known to be a symbol then.
+/// Prints a v0 run into memory, and counts its looks. Returns the size of its text, or `None` if the
+/// run is not known to be a symbol then.
 #[inline(always)]
-fn print_run_within<S: TextSink>(run: &str, out: &mut S, format: Format) -> bool
+fn print_into(run: &str, memory: &mut [u8], format: Format, looks: &mut Looks) -> Option<usize>
     requires run { list_all is_run_byte run.now ≡ true }
-    requires not_failed { S.failed out.old ≡ false }
-    ensures { IsTrue result →
-        S.took out.old (replacement_in format run.now) out.new }
+    ensures size { IfSome result (λ n. n ≡ length (replacement_in format run.now)) }
+    ensures text { IfSome result (λ n. n ≤ length memory.old →
+        take n memory.new ≡ replacement_in format run.now) }
+    ensures grows { looks.old ≤ looks.new }
+    ensures most { looks.new ≤ looks.old + 139 * (length run.now + 1) }
 {
-    let text = without_thin_lto(run);
-    let mut limited = SizeLimitedFmtAdapter::new(out, text_limit(run, format));
-    let read = demangle_v0::demangle_printed_within(
-        text,
-        &mut limited,
-        format.include_hash,
-        format.fold_arguments,
-    );
-    let Some((_, suffix)) = read else {
-        return false;
-    };
-    let mut looks = Looks::new();
-    is_allowed(suffix, &mut looks) && put_piece(suffix, out).is_ok()
+    let mut sink = SliceSink::new(memory);
+    let limit = text_limit(run, format);
+    if print_v0_run(run, &mut sink, format, limit, looks) {
+        Some(sink.len())
+    } else {
+        None
+    }
 }
 
-/// Prints a v0 run, and then writes its text. Returns `false` if the run is not known to be a symbol
-/// then, or if the size would exceed `usize::MAX`. Then it writes nothing.
-// It is not inlined: its buffer and its parser need no stack while the run is read again.
+/// Prints a v0 run, and then writes its text. Counts the looks, whose bound is linear in its length.
+/// Returns `false` if the run is not known to be a symbol then, if its text is too long, or if the
+/// size would exceed `usize::MAX`. Then it writes nothing.
+// It is not inlined: its memory and its parser need no stack while the run is read again.
 #[inline(never)]
-fn put_printed<'b>(run: &str, out: &mut SliceSink<'b>, format: Format) -> bool
+fn put_printed<'b>(run: &str, out: &mut SliceSink<'b>, format: Format, looks: &mut Looks) -> bool
     requires run { list_all is_run_byte run.now ≡ true }
     requires not_failed { ⟦<SliceSink<'b> as TextSink>⟧.failed out.old ≡ false }
-    ensures put { IsTrue result → PutsPieces ⟦<SliceSink<'b> as TextSink>⟧ out.old
-        (run_pieces format run.now) (Ok tt) out.new }
+    ensures put { IsTrue result → PutsText ⟦<SliceSink<'b> as TextSink>⟧ out.old
+        (replacement_in format run.now) (Ok tt) out.new }
     ensures kept { IsFalse result → out.new ≡ out.old }
+    ensures grows { looks.old ≤ looks.new }
+    ensures most { looks.new ≤ looks.old + 139 * (length run.now + 1) }
 {
-    let mut text = ShortText::new();
-    if !print_run_within(run, &mut text, format) {
+    let mut memory = [0u8; TEXT_SIZE];
+    let Some(size) = print_into(run, &mut memory, format, looks) else {
         return false;
-    }
-    let bytes = text.held.as_slice();
+    };
     // If the count overflows, `put_run` still writes the pieces before that.
-    if bytes.len() > usize::MAX - out.len() {
+    if size > TEXT_SIZE || size > usize::MAX - out.len() {
         return false;
     }
-    out.put_bytes(bytes).is_ok()
+    out.put_bytes(&memory[..size]).is_ok()
 }
 
 /// Writes the replacement of a run as `put_run` does, and reads a v0 run once if it can. Fails if
@@ -264,7 +208,7 @@ pub(crate) fn put_run_first<'b>(
 ) -> Result<(), SinkRefused>
     requires run { list_all is_run_byte run.now ≡ true }
     requires not_failed { ⟦<SliceSink<'b> as TextSink>⟧.failed out.old ≡ false }
-    ensures { PutsPieces ⟦<SliceSink<'b> as TextSink>⟧ out.old (run_pieces format run.now)
+    ensures { PutsText ⟦<SliceSink<'b> as TextSink>⟧ out.old (replacement_in format run.now)
         result out.new }
 {
     if *pause > 0 {
@@ -274,7 +218,7 @@ pub(crate) fn put_run_first<'b>(
     if !is_printed_first(run, format) {
         return put_run(run, out, format);
     }
-    if put_printed(run, out, format) {
+    if put_printed(run, out, format, &mut Looks::new()) {
         return Ok(());
     }
     *pause = run.len().saturating_mul(PAUSE);

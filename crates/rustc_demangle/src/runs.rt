@@ -82,7 +82,7 @@ pub fn run_start(text: &[u8]) -> Option<usize>
 
 /// Returns whether this is a run byte.
 #[inline(always)]
-fn is_run_byte(byte: u8) -> bool
+pub(crate) fn is_run_byte(byte: u8) -> bool
     ensures { result ≡ is_run_byte byte }
 {
     (byte == b'$') | (byte == b'.') | (byte == b'_') | byte.is_ascii_alphanumeric()

@@ -46,10 +46,8 @@ impl DemangleStyle<'_> {
         ensures least { looks.old + style_least self.now ≤ looks.new }
     {
         match self {
-            DemangleStyle::Legacy(symbol) => symbol.write_to(out, format.include_hash, looks),
-            DemangleStyle::V0(symbol) => {
-                symbol.write_to(out, format.include_hash, format.fold_arguments, looks)
-            }
+            DemangleStyle::Legacy(symbol) => symbol.write_to(out, format.form(), looks),
+            DemangleStyle::V0(symbol) => symbol.write_to(out, format.form(), looks),
         }
     }
 }
@@ -203,12 +201,23 @@ impl<'a> Demangle<'a> {
         }
     }
 
+    /// Parses a run as a symbol, and counts its looks. Keeps it as it is if it is not one. A run is
+    /// ASCII.
+    pub(crate) fn read_run_counted(run: &'a str, looks: &mut Looks) -> Demangle<'a>
+        requires { list_all is_run_byte run.now ≡ true }
+        ensures text { result ≡ stripped run.now }
+        ensures grows { looks.old ≤ looks.new }
+        ensures most { looks.new ≤ looks.old + 61 * (length run.now + 1) }
+    {
+        Demangle::read(without_thin_lto(run), true, looks)
+    }
+
     /// Parses a run as a symbol, and keeps it as it is if it is not one. A run is ASCII.
     pub(crate) fn read_run(run: &'a str) -> Demangle<'a>
         requires { list_all is_run_byte run.now ≡ true }
         ensures { result ≡ stripped run.now }
     {
-        Demangle::read(without_thin_lto(run), true, &mut Looks::new())
+        Demangle::read_run_counted(run, &mut Looks::new())
     }
 
     /// Returns whether the text is a symbol.

@@ -1,6 +1,6 @@
 -- Internal: no public contract cites this.
--- The keys and texts that a memo remembers.
-use Rattle.std.specs.Prelude.{◌≡◌, ℕ, ◌+◌, ◌<◌, ◌≤◌, List, length, take, drop}
+-- The keys and texts that a memo remembers, and the memory that it uses.
+use Rattle.std.specs.Prelude.{◌≡◌, ℕ, ◌+◌, ◌*◌, ◌<◌, ◌≤◌, List, length, take, drop, vec_capacity}
 use Rattle.std.specs.List.{All}
 use Rattle.text_memo.specs.declared.Entry.{Entry}
 use Rattle.text_memo.specs.declared.Pair.{Pair}
@@ -24,3 +24,19 @@ HoldsBoth text_for bytes pair = Holds text_for bytes pair.newer × Holds text_fo
 -- the text of each entry is that of its key
 abbrev pub Remembers : (List ℕ → List ℕ) → TextMemo → Type 0
 Remembers text_for memo = All (HoldsBoth text_for memo.bytes.items) memo.pairs.items
+
+-- the bytes that its vectors have allocated: a pair takes 24, and a fingerprint 4
+abbrev pub allocated : TextMemo → ℕ
+allocated memo = 24 * vec_capacity memo.pairs + vec_capacity memo.bytes + 4 * (vec_capacity memo.noted + vec_capacity memo.too_long)
+
+-- the vectors of fingerprints have at most these places
+abbrev pub HasFewFingerprints : TextMemo → Type 0
+HasFewFingerprints memo = (vec_capacity memo.noted ≤ 8192) × (vec_capacity memo.too_long ≤ 8192)
+
+-- each vector has at most these places, so all of them have allocated at most 4,456,448 bytes
+abbrev pub IsSmall : TextMemo → Type 0
+IsSmall memo = (vec_capacity memo.pairs ≤ 8192) × (vec_capacity memo.bytes ≤ 4194304) × HasFewFingerprints memo
+
+-- a change of the entries alone
+abbrev pub SameFingerprints : TextMemo → TextMemo → Type 0
+SameFingerprints old new = (new.noted ≡ old.noted) × (new.too_long ≡ old.too_long)

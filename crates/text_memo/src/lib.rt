@@ -2,10 +2,15 @@
 //! keys.
 #![tactic(auto)]
 
-ghost use Rattle.std.specs.Prelude.{◌≡◌, ◌<◌, ◌≤◌, ◌+◌, ℕ, List, length, IfSome, IsTrue, ◌++◌};
-ghost use Rattle.text_memo.specs.Memo.{Remembers, Holds, HoldsBoth};
+ghost use Rattle.std.specs.Prelude.{◌≡◌, ◌<◌, ◌≤◌, ◌+◌, ℕ, List, length, IfSome, IsTrue, [], ◌++◌, false, vec_capacity};
+ghost use Rattle.text_memo.specs.Memo.{Remembers, Holds, HoldsBoth, HasFewFingerprints, IsSmall, SameFingerprints, allocated};
 
+mod comparisons;
+
+pub use comparisons::Comparisons;
+use comparisons::are_equal;
 use std::alloc::Global;
+use std::mem;
 
 #[cfg(test)]
 mod tests;
@@ -13,7 +18,7 @@ mod tests;
 /// The number of pairs of entries. The hash of a key chooses its pair.
 const PAIRS: usize = 8192;
 
-/// The number of slots for the fingerprints of keys.
+/// The number of slots for the fingerprints of keys, and of those for the keys of long texts.
 const FINGERPRINTS: usize = 8192;
 
 /// The longest key of an entry.
@@ -46,7 +51,7 @@ struct Pair {
     older: Entry,
 }
 
-/// A free entry. It has an empty key, which no other entry has.
+/// A free entry. It has an empty key and an even fingerprint, which no other entry has.
 const NO_ENTRY: Entry = Entry {
     start: 0,
     key_len: 0,
@@ -76,8 +81,10 @@ pub enum Noted {
 pub struct TextMemo {
     pairs: Vec<Pair>,
     bytes: Vec<u8>,
-    /// A fingerprint is even if its key was noted once, and odd if its key's text is too long.
-    fingerprints: Vec<u32>,
+    /// The fingerprint of the last key that was noted in each slot.
+    noted: Vec<u32>,
+    /// The fingerprint of the last key in each slot whose text is too long.
+    too_long: Vec<u32>,
 }
 
 /// Returns a hash with sixteen bytes mixed in.
@@ -122,30 +129,69 @@ fn fingerprint_place(hash: u64) -> usize
     ((hash / 1_099_511_627_776) % 8192) as usize
 }
 
-/// Returns a key's fingerprint, which is even.
+/// Returns a key's fingerprint, which is odd.
 #[inline(always)]
 fn fingerprint_of(hash: u64) -> u32 {
-    (hash % 4_294_967_296) as u32 & 0xFFFF_FFFE
+    (hash % 4_294_967_296) as u32 | 1
+}
+
+/// Fills a vector with zeros if it is empty. It stays empty if memory can't be allocated, or if `Vec`
+/// allocates more than it needs.
+#[inline(never)]
+fn fill(fingerprints: &mut Vec<u32>)
+    ensures { vec_capacity fingerprints.new ≤ FINGERPRINTS }
+{
+    if fingerprints.resize(FINGERPRINTS, 0).is_err() || fingerprints.capacity() > FINGERPRINTS {
+        fingerprints.clear();
+        fingerprints.shrink_to_fit();
+    }
 }
 
 impl TextMemo {
     /// Returns a memo without entries. It does not allocate before a key is noted.
     pub fn new(alloc: Global) -> Self
-        ensures { (text_for : List ℕ → List ℕ) → Remembers text_for result }
+        ensures remembers { (text_for : List ℕ → List ℕ) → Remembers text_for result }
+        ensures small { IsSmall result }
+        ensures none { allocated result ≡ 0 }
     {
         TextMemo {
             pairs: Vec::new(alloc),
             bytes: Vec::new(alloc),
-            fingerprints: Vec::new(alloc),
+            noted: Vec::new(alloc),
+            too_long: Vec::new(alloc),
         }
     }
 
-    /// Returns the text of an entry, or `None` if the entry has another key.
+    /// Returns the number of bytes that the memo has allocated, which is at most 4.5 MB.
+    pub fn allocated(&self) -> usize
+        ensures value { IsSmall self.now → result ≡ allocated self.now }
+        ensures most { IsSmall self.now → result ≤ 4_500_000 }
+    {
+        let fingerprints = self
+            .noted
+            .capacity()
+            .saturating_add(self.too_long.capacity());
+        let pairs = self.pairs.capacity().saturating_mul(mem::size_of::<Pair>());
+        pairs
+            .saturating_add(fingerprints.saturating_mul(mem::size_of::<u32>()))
+            .saturating_add(self.bytes.capacity())
+    }
+
+    /// Returns the text of an entry, or `None` if the entry has another key. Compares at most one
+    /// key.
     #[inline(always)]
-    fn text_at(&self, entry: &Entry, key: &[u8], fingerprint: u32) -> Option<&[u8]>
+    fn text_at(
+        &self,
+        entry: &Entry,
+        key: &[u8],
+        fingerprint: u32,
+        comparisons: &mut Comparisons,
+    ) -> Option<&[u8]>
         requires { 0 < length key.now }
-        ensures { (text_for : List ℕ → List ℕ) → Holds text_for self.now.bytes.items entry.now →
+        ensures text { (text_for : List ℕ → List ℕ)
+            → Holds text_for self.now.bytes.items entry.now →
             IfSome result (λ text. text.now ≡ text_for key.now) }
+        ensures most { comparisons.new ≤ comparisons.old + 1 }
     {
         if entry.fingerprint != fingerprint || entry.key_len as usize != key.len() {
             return None;
@@ -158,7 +204,7 @@ impl TextMemo {
             return None;
         }
         // Two keys may have the same fingerprint and length.
-        if &bytes[start..middle] == key {
+        if are_equal(&bytes[start..middle], key, comparisons) {
             Some(&bytes[middle..end])
         } else {
             None
@@ -166,11 +212,13 @@ impl TextMemo {
     }
 
     /// Returns the text of a key, or `None` if the memo has no entry for it. `hash` is the key's.
+    /// Compares at most two keys.
     #[inline(always)]
-    pub fn get(&self, key: &[u8], hash: u64) -> Option<&[u8]>
+    pub fn get(&self, key: &[u8], hash: u64, comparisons: &mut Comparisons) -> Option<&[u8]>
         requires { 0 < length key.now }
-        ensures { (text_for : List ℕ → List ℕ) → Remembers text_for self.now →
+        ensures text { (text_for : List ℕ → List ℕ) → Remembers text_for self.now →
             IfSome result (λ text. text.now ≡ text_for key.now) }
+        ensures most { comparisons.new ≤ comparisons.old + 2 }
     {
         let place = pair_place(hash);
         if place >= self.pairs.len() {
@@ -178,51 +226,65 @@ impl TextMemo {
         }
         let pair = &self.pairs[place];
         let fingerprint = fingerprint_of(hash);
-        match self.text_at(&pair.newer, key, fingerprint) {
+        match self.text_at(&pair.newer, key, fingerprint, comparisons) {
             Some(text) => Some(text),
-            None => self.text_at(&pair.older, key, fingerprint),
+            None => self.text_at(&pair.older, key, fingerprint, comparisons),
         }
     }
 
     /// Notes a key, and returns how it was noted before. So a caller can leave out keys that come
     /// once. `hash` is the key's.
+    ///
+    /// Any key replaces the fingerprint of another one in its slot. Those of long texts are apart,
+    /// so each of them is replaced only by another one.
     #[inline(always)]
     pub fn note(&mut self, hash: u64) -> Noted
-        ensures { (text_for : List ℕ → List ℕ) → Remembers text_for self.old →
+        ensures remembers { (text_for : List ℕ → List ℕ) → Remembers text_for self.old →
             Remembers text_for self.new }
+        ensures small { IsSmall self.old → IsSmall self.new }
     {
+        if self.noted.is_empty() {
+            fill(&mut self.noted);
+        }
         let place = fingerprint_place(hash);
-        if self.fingerprints.is_empty() && self.fingerprints.resize(FINGERPRINTS, 0).is_err() {
+        if place >= self.noted.len() {
             return Noted::New;
         }
-        if place >= self.fingerprints.len() {
+        let fingerprint = fingerprint_of(hash);
+        if self.noted[place] != fingerprint {
+            self.noted[place] = fingerprint;
             return Noted::New;
         }
-        let noted = self.fingerprints[place];
-        if noted & 0xFFFF_FFFE == fingerprint_of(hash) {
-            return if noted & 1 == 0 {
-                Noted::Again
-            } else {
-                Noted::TooLong
-            };
+        if self.too_long.get(place) == Some(&fingerprint) {
+            Noted::TooLong
+        } else {
+            Noted::Again
         }
-        // The fingerprint of a long text stays. So a caller prints such a text in vain at most once
-        // for each slot.
-        if noted & 1 == 0 {
-            self.fingerprints[place] = fingerprint_of(hash);
-        }
-        Noted::New
     }
 
     /// Notes that a key's text is too long for an entry. `hash` is the key's.
     pub fn note_too_long(&mut self, hash: u64)
-        ensures { (text_for : List ℕ → List ℕ) → Remembers text_for self.old →
+        ensures remembers { (text_for : List ℕ → List ℕ) → Remembers text_for self.old →
             Remembers text_for self.new }
+        ensures small { IsSmall self.old → IsSmall self.new }
     {
-        let place = fingerprint_place(hash);
-        if place < self.fingerprints.len() {
-            self.fingerprints[place] = fingerprint_of(hash) | 1;
+        if self.too_long.is_empty() {
+            fill(&mut self.too_long);
         }
+        let place = fingerprint_place(hash);
+        if place < self.too_long.len() {
+            self.too_long[place] = fingerprint_of(hash);
+        }
+    }
+
+    /// Removes all entries.
+    fn clear(&mut self)
+        ensures pairs { self.new.pairs.items ≡ [] }
+        ensures bytes { self.new.bytes.items ≡ [] }
+        ensures others { SameFingerprints self.old self.new }
+    {
+        self.pairs.clear();
+        self.bytes.clear();
     }
 
     /// Makes room for an entry of `len` bytes, or returns `false` if memory can't be allocated. All
@@ -232,10 +294,10 @@ impl TextMemo {
         ensures room { IsTrue result → length self.new.bytes.items + len ≤ MAX_BYTES }
         ensures kept { (text_for : List ℕ → List ℕ) → Remembers text_for self.old →
             Remembers text_for self.new }
+        ensures others { SameFingerprints self.old self.new }
     {
         if self.bytes.len() > MAX_BYTES - len {
-            self.pairs.clear();
-            self.bytes.clear();
+            self.clear();
         }
         if self.bytes.capacity() == 0 && self.bytes.reserve_exact(FIRST_BYTES).is_err() {
             return false;
@@ -249,6 +311,7 @@ impl TextMemo {
             self.new.bytes.items ≡ (self.old.bytes.items ++ key.now) ++ text.now }
         ensures kept { (text_for : List ℕ → List ℕ) → Remembers text_for self.old →
             Remembers text_for self.new }
+        ensures others { SameFingerprints self.old self.new }
     {
         self.bytes.extend_from_slice(key).is_ok() && self.bytes.extend_from_slice(text).is_ok()
     }
@@ -256,8 +319,9 @@ impl TextMemo {
     /// Adds an entry to a pair as the newer one. The one that was newer becomes the older one, and
     /// the one that was older is removed.
     fn put(&mut self, entry: Entry, place: usize)
-        ensures { (text_for : List ℕ → List ℕ) → Remembers text_for self.old →
+        ensures remembers { (text_for : List ℕ → List ℕ) → Remembers text_for self.old →
             Holds text_for self.old.bytes.items entry → Remembers text_for self.new }
+        ensures others { SameFingerprints self.old self.new }
     {
         if place < self.pairs.len() {
             let older = self.pairs[place].newer;
@@ -268,18 +332,14 @@ impl TextMemo {
         }
     }
 
-    /// Remembers the text of a key, and may remove older entries for it. `hash` is the key's.
-    ///
-    /// It changes no result of `get` if the key or the text is too long, or if memory can't be
-    /// allocated.
-    #[inline(never)]
-    pub fn insert(&mut self, key: &[u8], text: &[u8], hash: u64)
-        ensures { (text_for : List ℕ → List ℕ) → Remembers text_for self.old →
+    /// Adds an entry for a key and its text, if memory can be allocated. `hash` is the key's.
+    fn add(&mut self, key: &[u8], text: &[u8], hash: u64)
+        requires key { length key.now ≤ MAX_KEY }
+        requires text { length text.now ≤ MAX_TEXT }
+        ensures remembers { (text_for : List ℕ → List ℕ) → Remembers text_for self.old →
             text.now ≡ text_for key.now → Remembers text_for self.new }
+        ensures others { SameFingerprints self.old self.new }
     {
-        if key.len() > MAX_KEY || text.len() > MAX_TEXT {
-            return;
-        }
         if !self.make_room(key.len() + text.len()) {
             return;
         }
@@ -294,5 +354,34 @@ impl TextMemo {
             fingerprint: fingerprint_of(hash),
         };
         self.put(entry, pair_place(hash));
+    }
+
+    /// Frees the memory of all entries if `Vec` allocated more than they need.
+    fn free_excess(&mut self)
+        ensures remembers { (text_for : List ℕ → List ℕ) → Remembers text_for self.old →
+            Remembers text_for self.new }
+        ensures small { HasFewFingerprints self.old → IsSmall self.new }
+    {
+        if self.pairs.capacity() > PAIRS || self.bytes.capacity() > MAX_BYTES {
+            self.clear();
+            self.pairs.shrink_to_fit();
+            self.bytes.shrink_to_fit();
+        }
+    }
+
+    /// Remembers the text of a key, and may remove older entries for it. `hash` is the key's.
+    ///
+    /// It changes no result of `get` if the key or the text is too long, or if memory can't be
+    /// allocated.
+    #[inline(never)]
+    pub fn insert(&mut self, key: &[u8], text: &[u8], hash: u64)
+        ensures remembers { (text_for : List ℕ → List ℕ) → Remembers text_for self.old →
+            text.now ≡ text_for key.now → Remembers text_for self.new }
+        ensures small { IsSmall self.old → IsSmall self.new }
+    {
+        if key.len() <= MAX_KEY && text.len() <= MAX_TEXT {
+            self.add(key, text, hash);
+            self.free_excess();
+        }
     }
 }

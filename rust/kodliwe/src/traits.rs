@@ -1,5 +1,5 @@
 //! Traits of Rust's library for the sinks.
-use crate::demangle_sink::{ArraySink, SinkRefused, SliceSink, TextSink};
+use crate::demangle_sink::{ArraySink, FmtSink, SinkRefused, SliceSink, TextSink};
 use core::{error, fmt};
 
 impl fmt::Display for SinkRefused {
@@ -25,10 +25,25 @@ impl<const N: usize> fmt::Debug for ArraySink<N> {
     }
 }
 
+impl SliceSink<'_> {
+    /// Returns whether the sink has taken no bytes.
+    pub fn is_empty(&self) -> bool {
+        self.len() == 0
+    }
+}
+
 impl fmt::Debug for SliceSink<'_> {
     fn fmt(&self, f: &mut fmt::Formatter<'_>) -> fmt::Result {
         f.debug_struct("SliceSink")
             .field("len", &self.len())
+            .field("is_failed", &self.is_failed())
+            .finish_non_exhaustive()
+    }
+}
+
+impl<W: fmt::Write> fmt::Debug for FmtSink<'_, W> {
+    fn fmt(&self, f: &mut fmt::Formatter<'_>) -> fmt::Result {
+        f.debug_struct("FmtSink")
             .field("is_failed", &self.is_failed())
             .finish_non_exhaustive()
     }

@@ -1,8 +1,8 @@
 //! Tests of the crate's public interface.
 use kodliwe::{
-    ArraySink, Demangle, Format, MAX_SIZE, SinkRefused, SliceSink, TextSink, TryDemangleError,
-    demangle, demangle_slice, demangle_slice_formatted, demangle_text, demangle_text_formatted,
-    demangle_text_limited, try_demangle,
+    ArraySink, Demangle, FmtSink, Format, MAX_SIZE, SinkRefused, SliceSink, TextSink,
+    TryDemangleError, demangle, demangle_slice, demangle_slice_formatted, demangle_text,
+    demangle_text_formatted, demangle_text_limited, try_demangle,
 };
 use std::error::Error;
 use std::fmt::{Debug, Display};
@@ -10,14 +10,11 @@ use std::panic::{RefUnwindSafe, UnwindSafe};
 
 const SYMBOL: &str = "_ZN3foo3bar17h05af221e174051e9E";
 
-const FOLDED: Format = Format {
-    include_hash: false,
-    fold_arguments: true,
-    limit: MAX_SIZE,
-};
+const FOLDED: Format = Format::new().with_folded_arguments(true);
 
 fn has_auto_traits<T: Send + Sync + Unpin + UnwindSafe + RefUnwindSafe>() {}
 fn is_printed<T: Display + Debug>() {}
+fn is_copied<T: Copy>() {}
 fn is_error<T: Error + Send + Sync + 'static>() {}
 
 #[test]
@@ -27,6 +24,8 @@ fn types_have_their_traits() {
     has_auto_traits::<SinkRefused>();
     has_auto_traits::<ArraySink<8>>();
     is_printed::<Demangle<'static>>();
+    is_copied::<Demangle<'static>>();
+    is_copied::<Format>();
     is_error::<TryDemangleError>();
     is_error::<SinkRefused>();
 }
@@ -62,6 +61,44 @@ fn each_form_is_written() {
             .is_ok()
     );
     assert_eq!(folded.as_str(), "foo::bar::<_>");
+    let mut formatted = ArraySink::<64>::new();
+    let format = Format::default().with_hash(true).with_limit(8);
+    assert!(
+        demangle(SYMBOL)
+            .write_formatted(&mut formatted, format)
+            .is_ok()
+    );
+    assert_eq!(formatted.as_str(), "foo::bar{size limit reached}");
+}
+
+#[test]
+fn a_formatter_is_a_sink() {
+    let mut path = String::new();
+    let mut sink = FmtSink::new(&mut path);
+    assert!(demangle(SYMBOL).write_formatted(&mut sink, FOLDED).is_ok());
+    assert_eq!(format!("{sink:?}"), "FmtSink { is_failed: false, .. }");
+    assert_eq!(path, "foo::bar");
+}
+
+#[test]
+fn a_format_has_what_was_set() {
+    let symbol = "_RINvCs8a2262Dv4r_3mio4pollhE";
+    for (has_hash, has_folded_arguments, limit, wanted) in [
+        (false, false, 100, "mio::poll::<u8>"),
+        (true, false, 100, "mio[1888792e1a78739]::poll::<u8>"),
+        (false, true, 100, "mio::poll::<_>"),
+        (false, false, 6, "mio::{size limit reached}"),
+    ] {
+        let format = Format::new()
+            .with_hash(has_hash)
+            .with_folded_arguments(has_folded_arguments);
+        let mut path = String::new();
+        let written = demangle(symbol)
+            .write_formatted(&mut FmtSink::new(&mut path), format.with_limit(limit));
+        assert!(written.is_ok());
+        assert_eq!(path, wanted);
+    }
+    assert_eq!(Format::default(), Format::new().with_limit(MAX_SIZE));
 }
 
 #[test]
@@ -108,7 +145,7 @@ fn a_slice_counts_what_does_not_fit() {
     assert_eq!(&memory, b"foo:");
 }
 
-#[cfg(feature = "std")]
+#[cfg(feature = "stream")]
 mod streams {
     use super::{FOLDED, has_auto_traits, is_error};
     use kodliwe::{

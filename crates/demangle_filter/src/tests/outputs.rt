@@ -173,10 +173,11 @@ fn a_part_is_flushed_before_more_is_read(rt: HostRuntime) -> Result<(), Fail> {
     let output = FlushingOutput::new(&mut taking);
     assert_eq!(rt; output.writer().write(b"a")?, 1);
     let parts: [&[u8]; 1] = [b"b"];
-    let mut input = output.reader(ChunkReader::new(&parts, 100, ErrorKind::Other));
-    let mut read = [0; 1];
-    assert_eq!(rt; input.read(&mut read)?, 1);
-    drop(input);
+    {
+        let mut input = output.reader(ChunkReader::new(&parts, 100, ErrorKind::Other));
+        let mut read = [0; 1];
+        assert_eq!(rt; input.read(&mut read)?, 1);
+    }
     drop(output);
     assert_eq!(rt; taking.written.as_slice(), b"a".as_slice());
     assert_eq!(rt; taking.flushed, 1);

@@ -32,19 +32,7 @@ impl<'s> Symbol<'s> {
         if self.is_at(b'0', place, looks) {
             return Ok((0, place + 1));
         }
-        let Some(first) = self.digit(place, looks) else {
-            return Err(ParseError::Invalid);
-        };
-        // Most names have fewer than 100 bytes, so two digits are read without a loop.
-        let one = usize::from(first);
-        let Some(second) = self.digit(place + 1, looks) else {
-            return Ok((one, place + 1));
-        };
-        let two = one * 10 + usize::from(second);
-        let Some(third) = self.digit(place + 2, looks) else {
-            return Ok((two, place + 2));
-        };
-        self.decimal_from(two * 10 + usize::from(third), place, place + 3, looks)
+        self.decimal(place, looks)
     }
 
     /// Returns the place after the last `_` of a part, or the start of the part if it has no `_`.

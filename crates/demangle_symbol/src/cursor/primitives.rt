@@ -222,9 +222,10 @@ impl<'s> Symbol<'s> {
         ensures unread { OnErr result (None ≡ optional_at 115 self.now place) }
         ensures fault { IfErr result (λ e. e ≡ ParseError.Invalid) }
         ensures grows { looks.old ≤ looks.new }
-        ensures ok_looks { IfOk result (λ r. looks.new ≤ looks.old + 4 * (r.1 - place + 1)) }
+        ensures ok_looks { IfOk result (λ r. looks.new ≤ looks.old + 4 * (r.1 - place) + 1) }
         ensures err_looks { OnErr result
             (looks.new ≤ looks.old + 4 * (length self.now - place + 1)) }
+        ensures reach { IfOk result (λ r. r.1 - place ≤ length self.now - place) }
         ensures within { IfOk result
             (λ r. (place ≤ r.1) × (place ≤ length self.now → r.1 ≤ length self.now)) }
     {

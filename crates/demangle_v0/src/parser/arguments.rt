@@ -1,8 +1,10 @@
 //! Continuations of generic arguments.
+#![tactic(auto, using(crate::proofs::Pace::place_left))]
+
 ghost use Rattle.std.specs.Prelude.{◌≡◌, ◌+◌, ◌≤◌, false, Ok, Some};
 ghost use Rattle.demangle_v0.specs.Productions.{arguments_continuation, argument_continuation, argument_place, argument_costs};
 ghost use Rattle.demangle_v0_grammar.specs.LookTotals.{total};
-ghost use Rattle.demangle_v0.specs.Parsers.{CanAdvance, Advanced, AdvancedUnfolded, restated};
+ghost use Rattle.demangle_v0.specs.Parsers.{CanAdvance, Advanced, AdvancedUnfolded, restated, Paced};
 ghost use Rattle.demangle_v0.specs.Steps.{looks_bound};
 
 use crate::parser::Continuation;
@@ -10,12 +12,13 @@ use crate::parser::lists::separator;
 use crate::parser::machine::Parser;
 use demangle_v0_tokens::fixed_texts::FixedText;
 
-impl<const N: usize> Parser<'_, N> {
+impl Parser<'_, '_> {
     /// Queues the `<` of a path's generic arguments, or `::` before it in value position.
     #[inline(always)]
     pub(super) fn generic(&mut self) -> Continuation
         requires can_step { CanAdvance Continuation.Generic self.old }
         ensures performs { Advanced Continuation.Generic self.old (Ok result) self.new }
+        ensures paced { Paced 20 self.old self.new }
     {
         if self.state.in_value {
             self.put(FixedText::PathSeparator);
@@ -32,6 +35,7 @@ impl<const N: usize> Parser<'_, N> {
     pub(super) fn arguments(&mut self, is_first: bool) -> Continuation
         requires can_step { CanAdvance Continuation.NextArgument self.old }
         ensures performs { AdvancedUnfolded is_first (arguments_continuation is_first) self.old (Ok result) self.new }
+        ensures paced { Paced 20 self.old self.new }
     {
         let Some(at) = self.state.place else {
             return self.end_with(FixedText::Greater);
@@ -61,6 +65,7 @@ impl<const N: usize> Parser<'_, N> {
         ensures looks { self.new.looks ≤ self.old.looks + total (argument_costs self.old.source.symbol.now
             at) }
         ensures least_looks { self.new.looks ≤ self.old.looks + 2 }
+        ensures paced { Paced 8 self.old self.new }
     {
         self.state.in_value = false;
         if self.source.symbol.is_at(b'L', at, &mut self.looks) {

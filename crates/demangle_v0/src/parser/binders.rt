@@ -9,7 +9,7 @@ use demangle_sink::SinkRefused;
 use demangle_v0_tokens::output::Output;
 use demangle_v0_tokens::token::Token;
 
-impl<const N: usize> Parser<'_, N> {
+impl Parser<'_, '_> {
     /// Brings `number` further lifetimes into scope, and prints them.
     ///
     /// Fails if the output does.

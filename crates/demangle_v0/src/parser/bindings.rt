@@ -1,6 +1,8 @@
 //! Continuations of the bindings of a dyn trait path.
-ghost use Rattle.std.specs.Prelude.{◌≡◌, Some, None, Ok, if◌then◌else◌};
-ghost use Rattle.demangle_v0.specs.Parsers.{Performed, CanPerform, CanAdvance, Advanced, AdvancedRest};
+#![tactic(auto, using(crate::proofs::Pace::place_left))]
+
+ghost use Rattle.std.specs.Prelude.{◌≡◌, Some, None, Ok, if◌then◌else◌, IsOk};
+ghost use Rattle.demangle_v0.specs.Parsers.{Performed, CanPerform, CanAdvance, Advanced, AdvancedRest, Paced};
 ghost use Rattle.demangle_v0.specs.Continuations.{bindings_left};
 
 use crate::parser::machine::Parser;
@@ -34,7 +36,7 @@ fn opening_text(is_bracket_open: bool) -> FixedText
     }
 }
 
-impl<const N: usize> Parser<'_, N> {
+impl Parser<'_, '_> {
     /// Starts the next binding of a dyn trait, or ends its bindings.
     ///
     /// Queues the text before either, which depends on whether the bracket is open.
@@ -42,6 +44,7 @@ impl<const N: usize> Parser<'_, N> {
     fn binding(&mut self, is_bracket_open: bool) -> Continuation
         requires can_step { CanAdvance Continuation.Bindings self.old }
         ensures performs { AdvancedRest (bindings_left is_bracket_open) 8 2 4 self.old (Ok result) self.new }
+        ensures paced { Paced 20 self.old self.new }
     {
         let Some(at) = self.state.place else {
             self.state.pending_text = closing_text(is_bracket_open);
@@ -62,6 +65,7 @@ impl<const N: usize> Parser<'_, N> {
     pub(super) fn bindings(&mut self) -> Continuation
         requires can_step { CanAdvance Continuation.Bindings self.old }
         ensures performs { Advanced Continuation.Bindings self.old (Ok result) self.new }
+        ensures paced { Paced 20 self.old self.new }
     {
         self.binding(self.state.is_bracket_open)
     }
@@ -71,6 +75,7 @@ impl<const N: usize> Parser<'_, N> {
     pub(super) fn further_bindings(&mut self) -> Continuation
         requires can_step { CanAdvance Continuation.FurtherBindings self.old }
         ensures performs { Advanced Continuation.FurtherBindings self.old (Ok result) self.new }
+        ensures paced { Paced 20 self.old self.new }
     {
         self.binding(true)
     }
@@ -83,6 +88,7 @@ impl<const N: usize> Parser<'_, N> {
     ) -> Result<Continuation, StepError>
         requires can_step { CanPerform V.Output Continuation.BindingName self.old output.old }
         ensures performs { Performed V.Output Continuation.BindingName self.old output.old result self.new output.new }
+        ensures paced { IsOk result → Paced 20 self.old self.new }
     {
         match self.token_at(TokenKind::BindingName, output) {
             TokenOutcome::Parsed(name, next) => {
@@ -99,6 +105,7 @@ impl<const N: usize> Parser<'_, N> {
     pub(super) fn bound_value(&mut self) -> Continuation
         requires can_step { CanAdvance Continuation.BindingValue self.old }
         ensures performs { Advanced Continuation.BindingValue self.old (Ok result) self.new }
+        ensures paced { Paced 20 self.old self.new }
     {
         self.push(Continuation::FurtherBindings);
         self.state.in_value = false;

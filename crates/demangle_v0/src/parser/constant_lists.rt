@@ -1,7 +1,9 @@
 //! Continuations of lists of constants: arrays, tuples and the fields of variants.
+#![tactic(auto, using(crate::proofs::Pace::place_left))]
+
 ghost use Rattle.std.specs.Prelude.{◌≡◌, Ok};
 ghost use Rattle.demangle_v0.specs.Productions.{at_first, after_first, after_next, element_continuation, close_of};
-ghost use Rattle.demangle_v0.specs.Parsers.{CanAdvance, Advanced};
+ghost use Rattle.demangle_v0.specs.Parsers.{CanAdvance, Advanced, Paced};
 
 use crate::parser::Continuation;
 use crate::parser::machine::Parser;
@@ -67,12 +69,13 @@ impl ConstantList {
     }
 }
 
-impl<const N: usize> Parser<'_, N> {
+impl Parser<'_, '_> {
     /// Starts the first element of a list, or closes the list if it has ended.
     #[inline(always)]
     pub(super) fn first_list_constant(&mut self, list: ConstantList) -> Continuation
         requires can_step { CanAdvance Continuation.Constant self.old }
         ensures performs { Advanced (at_first list) self.old (Ok result) self.new }
+        ensures paced { Paced 20 self.old self.new }
     {
         if self.ends_list() {
             return self.end_with(list.close());
@@ -87,6 +90,7 @@ impl<const N: usize> Parser<'_, N> {
     pub(super) fn next_list_constant(&mut self, list: ConstantList) -> Continuation
         requires can_step { CanAdvance Continuation.Constant self.old }
         ensures performs { Advanced (after_next list) self.old (Ok result) self.new }
+        ensures paced { Paced 20 self.old self.new }
     {
         if self.ends_list() {
             return self.end_with(list.close());
@@ -102,6 +106,7 @@ impl<const N: usize> Parser<'_, N> {
     pub(super) fn second_tuple_constant(&mut self) -> Continuation
         requires can_step { CanAdvance Continuation.SecondTupleConstant self.old }
         ensures performs { Advanced Continuation.SecondTupleConstant self.old (Ok result) self.new }
+        ensures paced { Paced 20 self.old self.new }
     {
         if self.ends_list() {
             self.put(FixedText::TrailingComma);

@@ -1,7 +1,9 @@
 //! Continuations of constants.
-ghost use Rattle.std.specs.Prelude.{◌≡◌, ◌==◌, ◌+◌, ◌≤◌, None, Ok, Some, if◌then◌else◌};
+#![tactic(auto, using(crate::proofs::Pace::place_left))]
+
+ghost use Rattle.std.specs.Prelude.{◌≡◌, ◌==◌, ◌+◌, ◌≤◌, None, Ok, Some, if◌then◌else◌, IsOk};
 ghost use Rattle.demangle_v0_grammar.specs.Table.{constant};
-ghost use Rattle.demangle_v0.specs.Parsers.{Performed, PerformedRest, CanPerform, CanAdvance, CanPrint, AdvancedRest, braced};
+ghost use Rattle.demangle_v0.specs.Parsers.{Performed, PerformedRest, CanPerform, CanAdvance, CanPrint, AdvancedRest, braced, Paced};
 ghost use Rattle.demangle_v0.specs.Productions.{shared_constant, variant_constant};
 ghost use Rattle.demangle_v0.specs.Steps.{looks_bound};
 ghost use Rattle.demangle_v0_tokens.specs.Tags.{constant_of};
@@ -13,7 +15,7 @@ use demangle_v0_tokens::output::Output;
 use demangle_v0_tokens::tags::{ConstantKind, constant_kind};
 use demangle_v0_tokens::token::TokenKind;
 
-impl<const N: usize> Parser<'_, N> {
+impl Parser<'_, '_> {
     /// Reads and prints a string, with which the constant ends.
     #[inline(never)]
     pub(super) fn literal<V: Output>(&mut self, output: &mut V) -> Result<Continuation, StepError>
@@ -21,6 +23,7 @@ impl<const N: usize> Parser<'_, N> {
         ensures performs { Performed V.Output Continuation.StrLiteral self.old output.old result self.new output.new }
         ensures own_looks { self.new.looks ≤ self.old.looks + looks_bound 8 self.old.source.symbol.now
             self.old.state.place }
+        ensures paced { IsOk result → Paced 8 self.old self.new }
     {
         self.end_with_token(TokenKind::StrLiteral, output)
     }
@@ -34,6 +37,7 @@ impl<const N: usize> Parser<'_, N> {
         ensures performs { Performed V.Output Continuation.Number self.old output.old result self.new output.new }
         ensures own_looks { self.new.looks ≤ self.old.looks + looks_bound 8 self.old.source.symbol.now
             self.old.state.place }
+        ensures paced { IsOk result → Paced 8 self.old self.new }
     {
         self.end_with_token(TokenKind::Number, output)
     }
@@ -68,6 +72,7 @@ impl<const N: usize> Parser<'_, N> {
         requires can_step { CanPerform V.Output Continuation.Constant self.old output.old }
         ensures performs { PerformedRest V.Output (constant_of self.old.state.in_value tag ConstantKind.Signed) 6
             6 9 self.old output.old result self.new output.new }
+        ensures paced { IsOk result → Paced 20 self.old self.new }
     {
         let at = self.state.place_or_abort()?;
         self.state.letter = tag;
@@ -85,6 +90,7 @@ impl<const N: usize> Parser<'_, N> {
         requires can_step { CanPerform V.Output Continuation.Constant self.old output.old }
         ensures performs { PerformedRest V.Output (shared_constant self.old.state.in_value) 6 6 9 self.old
             output.old result self.new output.new }
+        ensures paced { IsOk result → Paced 20 self.old self.new }
     {
         let Some(at) = self.state.place else {
             return Ok(self.with_braces(Continuation::ReferenceConstant));
@@ -103,6 +109,7 @@ impl<const N: usize> Parser<'_, N> {
         requires can_step { CanAdvance Continuation.Constant self.old }
         ensures performs { AdvancedRest (variant_constant self.old.state.in_value) 6 6 9 self.old (Ok result)
             self.new }
+        ensures paced { Paced 20 self.old self.new }
     {
         self.push(Continuation::Variant);
         if self.state.in_value {
@@ -123,6 +130,7 @@ impl<const N: usize> Parser<'_, N> {
         requires can_step { CanPerform V.Output Continuation.Constant self.old output.old }
         ensures performs { PerformedRest V.Output (constant self.old.state.in_value tag) 6 6 9 self.old
             output.old result self.new output.new }
+        ensures paced { IsOk result → Paced 20 self.old self.new }
     {
         let kind = constant_kind(tag).ok_or(StepError::Abort(FixedText::Invalid))?;
         match kind {
@@ -149,6 +157,7 @@ impl<const N: usize> Parser<'_, N> {
     pub(super) fn constant<V: Output>(&mut self, output: &mut V) -> Result<Continuation, StepError>
         requires can_step { CanPerform V.Output Continuation.Constant self.old output.old }
         ensures performs { Performed V.Output Continuation.Constant self.old output.old result self.new output.new }
+        ensures paced { IsOk result → Paced 20 self.old self.new }
     {
         let at = self.state.place_or_abort()?;
         let (tag, next) = self.source.symbol.tag(at, &mut self.looks)?;

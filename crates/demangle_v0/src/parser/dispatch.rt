@@ -1,8 +1,10 @@
 //! Calls the method of each continuation.
-ghost use Rattle.std.specs.Prelude.{◌≡◌, ◌+◌, ◌≤◌, true, false};
+#![tactic(auto, using(crate::proofs::Pace::place_left))]
+
+ghost use Rattle.std.specs.Prelude.{◌≡◌, ◌+◌, ◌≤◌, true, false, IsOk};
 ghost use Rattle.demangle_v0.specs.Skips.{is_skipped};
+ghost use Rattle.demangle_v0.specs.Parsers.{PerformedAs, CanPerform, Paced};
 ghost use Rattle.demangle_v0.specs.Loops.{first_looks};
-ghost use Rattle.demangle_v0.specs.Parsers.{PerformedAs, CanPerform};
 
 use crate::parser::constant_lists::ConstantList;
 use crate::parser::machine::Parser;
@@ -11,7 +13,7 @@ use crate::parser::types::may_have_splat;
 use crate::parser::{Continuation, StepError};
 use demangle_v0_tokens::output::Output;
 
-impl<const N: usize> Parser<'_, N> {
+impl Parser<'_, '_> {
     /// Performs a continuation, and returns the one to run next. If `defers` is true, a path is
     /// performed with those that are nested in one another, and with their names.
     ///
@@ -25,11 +27,12 @@ impl<const N: usize> Parser<'_, N> {
     ) -> Result<Continuation, StepError>
         requires can_step { CanPerform V.Output continuation self.old output.old }
         requires unskipped { V.is_printed ≡ true → is_skipped
-            self.old.source.fold_arguments continuation ≡ false }
+            self.old.source.form continuation ≡ false }
         ensures performs { PerformedAs defers V.Output continuation self.old output.old result
             self.new output.new }
         ensures least { continuation ≡ Continuation.Path → self.old.looks +
             first_looks Continuation.Path self.old.state ≤ self.new.looks }
+        ensures paced { IsOk result → Paced 20 self.old self.new }
     {
         match continuation {
             Continuation::Path => self.path(defers, output),

@@ -1,7 +1,9 @@
 //! Continuations of trait objects, which are `dyn` types.
-ghost use Rattle.std.specs.Prelude.{◌+◌, ◌≤◌, Ok, if◌then◌else◌};
+#![tactic(auto, using(crate::proofs::Pace::place_left))]
+
+ghost use Rattle.std.specs.Prelude.{◌+◌, ◌≤◌, Ok, if◌then◌else◌, IsOk};
 ghost use Rattle.demangle_v0.specs.Productions.{dyn_type};
-ghost use Rattle.demangle_v0.specs.Parsers.{Performed, CanPerform, CanAdvance, Advanced, AdvancedRest, AdvancedUnfolded};
+ghost use Rattle.demangle_v0.specs.Parsers.{Performed, CanPerform, CanAdvance, Advanced, AdvancedRest, AdvancedUnfolded, Paced};
 ghost use Rattle.demangle_v0.specs.Steps.{looks_bound};
 
 use crate::parser::lists::separator;
@@ -11,12 +13,13 @@ use demangle_v0_tokens::fixed_texts::FixedText;
 use demangle_v0_tokens::output::Output;
 use demangle_v0_tokens::token::TokenKind;
 
-impl<const N: usize> Parser<'_, N> {
+impl Parser<'_, '_> {
     /// Queues the `dyn ` of a dyn type, after its `D`. The binder of its traits follows.
     #[inline(always)]
     pub(super) fn dyn_type(&mut self) -> Continuation
         requires can_step { CanAdvance Continuation.DynBinder self.old }
         ensures performs { AdvancedRest dyn_type 5 4 5 self.old (Ok result) self.new }
+        ensures paced { Paced 20 self.old self.new }
     {
         // The lifetime of the type follows the traits, outside their binder. So the frame has only
         // the lifetimes that are in scope without it.
@@ -35,6 +38,7 @@ impl<const N: usize> Parser<'_, N> {
     ) -> Result<Continuation, StepError>
         requires can_step { CanPerform V.Output Continuation.DynBinder self.old output.old }
         ensures performs { Performed V.Output Continuation.DynBinder self.old output.old result self.new output.new }
+        ensures paced { IsOk result → Paced 20 self.old self.new }
     {
         let at = self.state.place_or_abort()?;
         let (number, next) = self
@@ -59,6 +63,7 @@ impl<const N: usize> Parser<'_, N> {
             (Ok result) self.new }
         ensures own_looks { self.new.looks ≤ self.old.looks + looks_bound 16 self.old.source.symbol.now
             self.old.state.place }
+        ensures paced { Paced 16 self.old self.new }
     {
         if self.ends_list() {
             self.state.is_bracket_open = false;
@@ -79,6 +84,7 @@ impl<const N: usize> Parser<'_, N> {
     ) -> Result<Continuation, StepError>
         requires can_step { CanPerform V.Output Continuation.TraitPath self.old output.old }
         ensures performs { Performed V.Output Continuation.TraitPath self.old output.old result self.new output.new }
+        ensures paced { IsOk result → Paced 20 self.old self.new }
     {
         let at = self.state.place_or_abort()?;
         if self.source.symbol.is_at(b'B', at, &mut self.looks) {
@@ -103,6 +109,7 @@ impl<const N: usize> Parser<'_, N> {
         requires can_step { CanAdvance Continuation.NextTraitArgument self.old }
         ensures performs { AdvancedUnfolded is_first (if is_first then Continuation.FirstTraitArgument else
             Continuation.NextTraitArgument) self.old (Ok result) self.new }
+        ensures paced { Paced 20 self.old self.new }
     {
         let Some(at) = self.state.place else {
             self.state.is_bracket_open = true;
@@ -124,6 +131,7 @@ impl<const N: usize> Parser<'_, N> {
     pub(super) fn folded_trait_arguments(&mut self) -> Continuation
         requires can_step { CanAdvance Continuation.FoldedTraitArguments self.old }
         ensures performs { Advanced Continuation.FoldedTraitArguments self.old (Ok result) self.new }
+        ensures paced { Paced 20 self.old self.new }
     {
         self.put(FixedText::Placeholder);
         self.state.is_bracket_open = true;
@@ -138,6 +146,7 @@ impl<const N: usize> Parser<'_, N> {
     ) -> Result<Continuation, StepError>
         requires can_step { CanPerform V.Output Continuation.DynLifetime self.old output.old }
         ensures performs { Performed V.Output Continuation.DynLifetime self.old output.old result self.new output.new }
+        ensures paced { IsOk result → Paced 20 self.old self.new }
     {
         self.end_with_token(TokenKind::DynLifetime, output)
     }

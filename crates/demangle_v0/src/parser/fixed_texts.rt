@@ -1,7 +1,9 @@
 //! Continuations that do nothing but queue a fixed text.
+#![tactic(auto, using(crate::proofs::Pace::place_left))]
+
 ghost use Rattle.std.specs.Prelude.{◌≡◌, Ok, IsSome};
 ghost use Rattle.demangle_v0.specs.Productions.{text_step_at};
-ghost use Rattle.demangle_v0.specs.Parsers.{Advanced};
+ghost use Rattle.demangle_v0.specs.Parsers.{Advanced, Paced};
 ghost use Rattle.demangle_v0.specs.Measure.{Fits};
 
 use crate::parser::Continuation;
@@ -70,7 +72,7 @@ fn text_step_at(continuation: Continuation) -> Option<TextStep>
     })
 }
 
-impl<const N: usize> Parser<'_, N> {
+impl Parser<'_, '_> {
     /// Queues the fixed text of a continuation that does nothing else.
     #[inline(always)]
     pub(super) fn queue_text(&mut self, continuation: Continuation) -> Continuation
@@ -78,6 +80,7 @@ impl<const N: usize> Parser<'_, N> {
         requires fits { Fits continuation self.old.state.depth_left self.old.state.lifetimes }
         ensures performs { Advanced continuation self.old (Ok result) self.new }
         ensures looks { self.new.looks ≡ self.old.looks }
+        ensures paced { Paced 0 self.old self.new }
     {
         let Some(left) = text_step_at(continuation) else {
             return Continuation::End;

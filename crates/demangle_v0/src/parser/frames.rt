@@ -1,10 +1,8 @@
 //! The frames, which store what follows a nested production, and their stack.
-ghost use Rattle.std.specs.Prelude.{◌≡◌, ◌^◌, ◌+◌, ◌<◌, ◌≤◌, [], ◌∷◌, ◌++◌, length, take, IfSome, IfNone};
-ghost use Rattle.demangle_v0.specs.Frames.{packed_frame};
+ghost use Rattle.std.specs.Prelude.{◌≡◌, ◌^◌, ◌+◌, ◌<◌, ◌≤◌, ◌↔◌, [], ◌++◌, length, take, IfSome, IfNone, IsTrue};
+ghost use Rattle.demangle_v0.specs.Frames.{packed_frame, on_top};
 
 use crate::parser::Continuation;
-use arrayvec::ArrayVec;
-use std::default::Default;
 use std::marker::Model;
 use std::mem;
 
@@ -27,7 +25,7 @@ pub struct Frame {
 
 /// A frame as the stack stores it, in 16 bytes.
 #[derive(Clone, Copy)]
-struct PackedFrame {
+pub struct PackedFrame {
     low: u64,
     high: u16,
     depth_left: u16,
@@ -40,20 +38,15 @@ struct PackedFrame {
 
 const _: () = prove!(mem::size_of::<PackedFrame>() == 16);
 
-impl Default for PackedFrame {
-    /// Returns what the stack stores above its top.
-    #[inline(always)]
-    fn default() -> Self {
-        PackedFrame {
-            low: 0,
-            high: 0,
-            depth_left: 0,
-            continuation: Continuation::InherentImplPath,
-            in_value: false,
-            letter: 0,
-        }
-    }
-}
+/// What the memory of a stack holds above its top.
+pub const UNUSED_FRAME: PackedFrame = PackedFrame {
+    low: 0,
+    high: 0,
+    depth_left: 0,
+    continuation: Continuation::InherentImplPath,
+    in_value: false,
+    letter: 0,
+};
 
 /// Returns a frame as the stack stores it.
 #[inline(always)]
@@ -95,98 +88,102 @@ pub const MIDDLE_STACK: usize = 512;
 /// The number of frames of a last stack. No symbol needs more.
 pub const FULL_STACK: usize = 4096;
 
-/// A stack of at most `N` frames. The last one is the top.
+/// A stack of frames in the caller's memory. The last one is the top.
 #[derive(Drop)]
-pub struct FrameStack<const N: usize> {
-    frames: ArrayVec<PackedFrame, N>,
+pub struct FrameStack<'f> {
+    memory: &'f mut [PackedFrame],
+    len: usize,
 }
 
-impl<const N: usize> Model for FrameStack<N> {
-    ghost use Rattle.std.specs.Prelude.{◌≤◌, List, length, map};
-    ghost use Rattle.demangle_v0.specs.declared.parser.frames.Frame.{Frame};
-    ghost use Rattle.demangle_v0.specs.Frames.{packed_frame};
+impl<'f> Model for FrameStack<'f> {
+    ghost use Rattle.std.specs.Prelude.{◌≤◌, length, map, take};
+    ghost use Rattle.demangle_v0.specs.Frames.{Stack, packed_frame};
 
-    ghost Value = { List Frame };
+    ghost Value = { Stack };
 
-    ghost view = { λ stack. map packed_frame stack.frames.items };
+    ghost view = { λ s. record {
+      frames = map packed_frame (take s.len s.memory.now);
+      room = length s.memory.now;
+    } };
 
-    ghost invariant = { λ stack. length stack.frames.items ≤ N };
+    ghost invariant = { λ s. s.len ≤ length s.memory.now };
 }
 
-impl<const N: usize> FrameStack<N> {
-    /// Returns an empty stack.
+impl<'f> FrameStack<'f> {
+    /// Returns an empty stack, which has room for as many frames as this memory.
     #[inline(always)]
-    pub fn new() -> Self
-        ensures { result ≡ [] }
+    pub fn new(memory: &'f mut [PackedFrame]) -> Self
+        ensures { result ≡ record { frames = []; room = length memory.old } }
     {
+        FrameStack { memory, len: 0 }
+    }
+
+    /// Returns a stack in this memory with the frames of another.
+    pub fn with_frames_of(other: &FrameStack<'_>, memory: &'f mut [PackedFrame]) -> Self
+        requires room { other.now.room ≤ length memory.old }
+        ensures { result ≡ record { frames = other.now.frames; room = length memory.old } }
+    {
+        memory[..other.len].copy_from_slice(&other.memory[..other.len]);
         FrameStack {
-            frames: ArrayVec::new(),
+            memory,
+            len: other.len,
         }
     }
 
     /// Returns the number of frames.
     #[inline(always)]
     pub fn len(&self) -> usize
-        ensures { result ≡ length self.now }
+        ensures { result ≡ length self.now.frames }
     {
-        self.frames.len()
+        self.len
+    }
+
+    /// Returns whether there is room for another frame.
+    #[inline(always)]
+    pub fn has_room(&self) -> bool
+        ensures { IsTrue result ↔ length self.now.frames < self.now.room }
+    {
+        self.len < self.memory.len()
+    }
+
+    /// Returns for how many further frames there is room.
+    #[inline(always)]
+    pub fn room_left(&self) -> usize
+        ensures { result + length self.now.frames ≡ self.now.room }
+    {
+        self.memory.len() - self.len
     }
 
     /// Pushes a frame.
     #[inline(always)]
     pub fn push(&mut self, frame: Frame)
-        requires room { length self.old < N }
-        ensures pushed { frame.number < 2 ^ 80 → self.new ≡ self.old ++ frame ∷ [] }
-        ensures length { length self.new ≡ length self.old + 1 }
+        requires room { length self.old.frames < self.old.room }
+        ensures pushed { frame.number < 2 ^ 80 → self.new ≡ on_top self.old frame }
+        ensures length { length self.new.frames ≡ length self.old.frames + 1 }
+        ensures room { self.new.room ≡ self.old.room }
     {
-        self.frames.push(pack(frame));
-    }
-
-    /// Pushes all frames of another stack, in their order.
-    pub fn append<const M: usize>(&mut self, other: &FrameStack<M>)
-        requires room { length self.old + M ≤ N }
-        ensures { self.new ≡ self.old ++ other.now }
-    {
-        let _ = self.frames.try_extend_from_slice(other.frames.as_slice());
+        self.memory[self.len] = pack(frame);
+        self.len += 1;
     }
 
     /// Keeps only the lowest `count` frames.
     pub fn truncate(&mut self, count: usize)
-        ensures { self.new ≡ take count self.old }
+        ensures { self.new ≡ record self.old { frames = take count self.old.frames } }
     {
-        self.frames.truncate(count);
-    }
-
-    /// Returns the number of the top frame, or 0 if the stack is empty.
-    // It is not inlined, so that the loop that asks for it stays small.
-    #[inline(never)]
-    pub fn top_number(&self) -> u128 {
-        match self.frames.as_slice().last() {
-            Some(frame) => unpack(*frame).number,
-            None => 0,
-        }
-    }
-
-    /// Returns whether the top frame is the place after a reference.
-    // It is not inlined, as above.
-    #[inline(never)]
-    pub fn top_is_reference(&self) -> bool {
-        match self.frames.as_slice().last() {
-            Some(frame) => match unpack(*frame).continuation {
-                Continuation::AfterBackref => true,
-                _ => false,
-            },
-            None => false,
-        }
+        self.len = self.len.min(count);
     }
 
     /// Removes the top frame and returns it, or returns `None` if the stack is empty.
     #[inline(always)]
     pub fn pop(&mut self) -> Option<Frame>
-        ensures some { IfSome result (λ frame. self.old ≡ self.new ++ frame ∷ []) }
-        ensures none { IfNone result (self.old ≡ []) }
+        ensures some { IfSome result (λ frame. self.old ≡ on_top self.new frame) }
+        ensures none { IfNone result (self.old.frames ≡ []) }
         ensures same { IfNone result (self.new ≡ self.old) }
     {
-        Some(unpack(self.frames.pop()?))
+        if self.len == 0 {
+            return None;
+        }
+        self.len -= 1;
+        Some(unpack(self.memory[self.len]))
     }
 }

@@ -1,9 +1,12 @@
 //! Continuations of function types.
-ghost use Rattle.std.specs.Prelude.{◌≡◌, ℕ, ◌+◌, ◌≤◌, List, Bool, Ok, true, if◌then◌else◌, []};
+#![tactic(auto, using(crate::proofs::Pace::place_left))]
+
+ghost use Rattle.std.specs.Prelude.{◌≡◌, ℕ, ◌+◌, ◌≤◌, List, Ok, true, if◌then◌else◌, [], IsOk};
+ghost use Rattle.demangle_v0_grammar.specs.Reading.{Form};
 ghost use Rattle.demangle_v0_tokens.specs.Tags.{constructed_of};
 ghost use Rattle.demangle_v0_tokens.specs.Tokens.{texts_of};
 ghost use Rattle.demangle_v0_tokens.specs.declared.tags.ConstructedType.TheVariants as ConstructedType;
-ghost use Rattle.demangle_v0.specs.Parsers.{Performed, PerformedRest, CanPerform, CanAdvance, Advanced};
+ghost use Rattle.demangle_v0.specs.Parsers.{Performed, PerformedRest, CanPerform, CanAdvance, Advanced, Paced};
 ghost use Rattle.demangle_v0.specs.Steps.{looks_bound};
 
 use crate::parser::lists::separator;
@@ -17,13 +20,13 @@ use demangle_v0_tokens::token::{Abi, Token, TokenKind};
 /// Returns whether a function has no qualifiers, so that nothing is printed before its `fn`.
 #[inline(always)]
 fn has_no_qualifiers(head: &Token) -> bool
-    ensures { result ≡ true → (b : List ℕ) (include_hash : Bool) → texts_of b include_hash head.now
+    ensures { result ≡ true → (b : List ℕ) (form : Form) → texts_of b form head.now
         ≡ [] }
 {
     matches!(head, Token::FunctionQualifiers(false, Abi::Rust))
 }
 
-impl<const N: usize> Parser<'_, N> {
+impl Parser<'_, '_> {
     /// Reads the binder of a function type, after its `F`, and prints its lifetimes.
     ///
     /// The qualifiers follow. If there is no binder, the same step reads them.
@@ -37,6 +40,7 @@ impl<const N: usize> Parser<'_, N> {
             output.old result self.new output.new }
         ensures own_looks { self.new.looks ≤ self.old.looks + looks_bound 16 self.old.source.symbol.now
             self.old.state.place }
+        ensures paced { IsOk result → Paced 16 self.old self.new }
     {
         let at = self.state.place_or_abort()?;
         let (number, next) = self
@@ -62,6 +66,7 @@ impl<const N: usize> Parser<'_, N> {
             output.new }
         ensures own_looks { self.new.looks ≤ self.old.looks + looks_bound 8 self.old.source.symbol.now
             self.old.state.place }
+        ensures paced { IsOk result → Paced 8 self.old self.new }
     {
         match self.token_at(TokenKind::FunctionQualifiers, output) {
             TokenOutcome::Parsed(head, next) => {
@@ -84,6 +89,7 @@ impl<const N: usize> Parser<'_, N> {
         requires can_step { CanAdvance Continuation.NextParameter self.old }
         ensures performs { Advanced (if is_first then Continuation.FirstParameter else Continuation.NextParameter) self.old
             (Ok result) self.new }
+        ensures paced { Paced 20 self.old self.new }
     {
         if self.ends_list() {
             self.put(FixedText::CloseParen);
@@ -101,6 +107,7 @@ impl<const N: usize> Parser<'_, N> {
     pub(super) fn returns(&mut self) -> Continuation
         requires can_step { CanAdvance Continuation.Returns self.old }
         ensures performs { Advanced Continuation.Returns self.old (Ok result) self.new }
+        ensures paced { Paced 20 self.old self.new }
     {
         let Some(at) = self.state.place else {
             self.put(FixedText::Arrow);

@@ -1,18 +1,21 @@
 //! Continuations of the paths of impls, and of self types.
-ghost use Rattle.std.specs.Prelude.{◌≡◌, Ok};
+#![tactic(auto, using(crate::proofs::Pace::place_left))]
+
+ghost use Rattle.std.specs.Prelude.{◌≡◌, Ok, IsOk};
 ghost use Rattle.demangle_v0.specs.Productions.{impl_items, self_type_continuation, impl_path_continuation};
-ghost use Rattle.demangle_v0.specs.Parsers.{CanAdvance, Advanced, AdvancedRest, AdvancedWithoutOutput};
+ghost use Rattle.demangle_v0.specs.Parsers.{CanAdvance, Advanced, AdvancedRest, AdvancedWithoutOutput, Paced};
 
 use crate::parser::machine::Parser;
 use crate::parser::{Continuation, StepError};
 use demangle_v0_tokens::fixed_texts::FixedText;
 
-impl<const N: usize> Parser<'_, N> {
+impl Parser<'_, '_> {
     /// Reads the disambiguator of an impl, after its `M`, or its `X` if the impl is of a trait.
     #[inline(always)]
     pub(super) fn impl_disambiguator(&mut self, is_trait: bool) -> Result<Continuation, StepError>
         requires can_step { CanAdvance Continuation.Path self.old }
         ensures performs { AdvancedRest (impl_items is_trait) 6 1 2 self.old result self.new }
+        ensures paced { IsOk result → Paced 20 self.old self.new }
     {
         let Some(at) = self.state.place else {
             return Err(StepError::Abort(FixedText::AfterError));
@@ -33,6 +36,7 @@ impl<const N: usize> Parser<'_, N> {
     pub(super) fn read_impl_path(&mut self, is_trait: bool) -> Continuation
         requires can_step { CanAdvance Continuation.Path self.old }
         ensures performs { AdvancedWithoutOutput (impl_path_continuation is_trait) self.old (Ok result) self.new }
+        ensures paced { Paced 20 self.old self.new }
     {
         let next = if is_trait {
             Continuation::TraitSelfType
@@ -49,6 +53,7 @@ impl<const N: usize> Parser<'_, N> {
     pub(super) fn self_type(&mut self, is_trait: bool) -> Continuation
         requires can_step { CanAdvance Continuation.Path self.old }
         ensures performs { Advanced (self_type_continuation is_trait) self.old (Ok result) self.new }
+        ensures paced { Paced 20 self.old self.new }
     {
         self.put(FixedText::Less);
         if is_trait {
@@ -64,6 +69,7 @@ impl<const N: usize> Parser<'_, N> {
     pub(super) fn as_trait(&mut self) -> Continuation
         requires can_step { CanAdvance Continuation.AsTrait self.old }
         ensures performs { Advanced Continuation.AsTrait self.old (Ok result) self.new }
+        ensures paced { Paced 20 self.old self.new }
     {
         self.push(Continuation::CloseAngle);
         self.put(FixedText::AsTrait);

@@ -1,6 +1,8 @@
 //! Lists: where they end, and what separates their elements.
+#![tactic(auto, using(crate::proofs::Pace::place_left))]
+
 ghost use Rattle.std.specs.Prelude.{◌≡◌, Some, None, if◌then◌else◌};
-ghost use Rattle.demangle_v0.specs.Parsers.{moved};
+ghost use Rattle.demangle_v0.specs.Parsers.{moved, Paced};
 ghost use Rattle.demangle_v0.specs.Steps.{LooksWithin};
 ghost use Rattle.demangle_v0.specs.Continuations.{after_list, is_list_end, list_costs};
 
@@ -15,7 +17,7 @@ pub(super) fn separator(is_first: bool, pending_text: FixedText) -> Option<Fixed
     if is_first { None } else { Some(pending_text) }
 }
 
-impl<const N: usize> Parser<'_, N> {
+impl Parser<'_, '_> {
     /// Reads the `E` after a list, and returns whether the list ends.
     ///
     /// A list also ends if parsing has failed, so that what follows the list is printed.
@@ -25,6 +27,7 @@ impl<const N: usize> Parser<'_, N> {
         ensures place { self.new ≡ moved self.old (after_list self.old.source.symbol.now
             self.old.state.place) self.new.looks }
         ensures within_budget { LooksWithin self.old.looks (list_costs self.old.state.place) self.new.looks }
+        ensures paced { Paced 4 self.old self.new }
     {
         let Some(at) = self.state.place else {
             return true;

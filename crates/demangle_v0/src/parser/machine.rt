@@ -1,10 +1,10 @@
 //! The parser, and the methods that the productions share.
 ghost use Rattle.std.specs.Prelude.{◌≡◌, ◌+◌, ◌-◌, ◌<◌, ◌≤◌, ◌^◌, length, IfOk, IfErr};
-ghost use Rattle.demangle_v0.specs.Parsers.{deeper, emptied, looked, with_text, path_parser, pushed, closed};
+ghost use Rattle.demangle_v0.specs.Parsers.{deeper, roomier, looked, with_text, path_parser, pushed, closed};
 ghost use Rattle.demangle_v0.specs.Traces.{frame_at, frame_of};
 ghost use Rattle.demangle_v0.specs.declared.parser.StepError.TheVariants.{Abort};
 
-use crate::parser::frames::{Frame, FrameStack};
+use crate::parser::frames::{Frame, FrameStack, PackedFrame};
 use crate::parser::{Continuation, State, StepError};
 use demangle_symbol::cursor::Looks;
 use demangle_v0_tokens::fixed_texts::FixedText;
@@ -14,52 +14,62 @@ use std::mem;
 /// A parse of a symbol: what is next, and the frames with which it continues after that. The output
 /// is a parameter of the methods that print.
 #[derive(Drop)]
-pub struct Parser<'m, const N: usize> {
+pub struct Parser<'m, 'f> {
     pub source: Source<'m>,
-    pub continuation: Continuation,
     pub state: State,
-    pub stack: FrameStack<N>,
+    pub stack: FrameStack<'f>,
+    /// What is left of the budget for accepting a symbol. No other parse tests it.
+    pub fuel: usize,
     pub looks: Looks,
+    pub continuation: Continuation,
 }
 
-impl<'m, const N: usize> Parser<'m, N> {
-    /// Returns a parser of the path at a place, with no frames. Moves the count out of `looks`.
+impl<'m, 'f> Parser<'m, 'f> {
+    /// Returns a parser of the path at a place, whose frames go into this memory. Moves the count
+    /// out of `looks`.
     #[inline(always)]
-    pub(crate) fn at_path(source: Source<'m>, place: usize, looks: &mut Looks) -> Self
-        ensures { result ≡ path_parser source.entry place looks.old }
+    pub(crate) fn at_path(
+        source: Source<'m>,
+        place: usize,
+        memory: &'f mut [PackedFrame],
+        looks: &mut Looks,
+    ) -> Self
+        ensures { result ≡ path_parser source.entry place (length memory.old) looks.old }
     {
         Parser {
             source,
             continuation: Continuation::Path,
             state: State::at_path(place),
-            stack: FrameStack::new(),
+            stack: FrameStack::new(memory),
+            fuel: 0,
             looks: mem::replace(looks, Looks::new()),
         }
     }
 
-    /// Returns a parser in the same state as this one, but without frames. Moves the count of looks
-    /// into it.
-    // The caller appends the frames: a parser that is returned with its frames would be copied.
+    /// Returns a parser in the same state as this one, with its frames copied into larger memory.
+    /// Moves the count of looks into it.
     #[inline(always)]
-    pub(crate) fn without_frames<const M: usize>(&mut self) -> Parser<'m, M>
-        ensures moved { result ≡ emptied self.old }
+    pub(crate) fn in_larger_stack<'g>(&mut self, memory: &'g mut [PackedFrame]) -> Parser<'m, 'g>
+        requires room { self.old.stack.room ≤ length memory.old }
+        ensures moved { result ≡ roomier self.old (length memory.old) }
         ensures counted { self.new ≡ looked self.old 0 }
     {
         Parser {
             source: self.source,
             continuation: self.continuation,
             state: self.state,
-            stack: FrameStack::new(),
+            stack: FrameStack::with_frames_of(&self.stack, memory),
+            fuel: self.fuel,
             looks: mem::replace(&mut self.looks, Looks::new()),
         }
     }
 }
 
-impl<const N: usize> Parser<'_, N> {
+impl Parser<'_, '_> {
     /// Pushes a frame with which the parser continues after what is read next.
     #[inline(always)]
     pub(super) fn push(&mut self, continuation: Continuation)
-        requires room { length self.old.stack < N }
+        requires room { length self.old.stack.frames < self.old.stack.room }
         requires small { self.old.state.lifetimes < 2 ^ 80 }
         ensures { self.new ≡ pushed self.old (frame_at continuation self.old.state) }
     {
@@ -69,7 +79,7 @@ impl<const N: usize> Parser<'_, N> {
     /// Pushes such a frame with another letter.
     #[inline(always)]
     pub(super) fn push_lettered(&mut self, continuation: Continuation, letter: u8)
-        requires room { length self.old.stack < N }
+        requires room { length self.old.stack.frames < self.old.stack.room }
         requires small { self.old.state.lifetimes < 2 ^ 80 }
         ensures { self.new ≡ pushed self.old (frame_of continuation self.old.state.in_value letter
             self.old.state.depth_left self.old.state.lifetimes) }

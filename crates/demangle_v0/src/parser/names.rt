@@ -1,6 +1,8 @@
 //! The names of crates and of nested paths, which are read and printed.
-ghost use Rattle.std.specs.Prelude.{◌≡◌, ℕ, ◌+◌, ◌≤◌, true, None, Some, IfNone, IfOk, IfSome, IsAscii, MatchOption, OnOk};
-ghost use Rattle.demangle_v0.specs.Parsers.{Performed, PerformedRest, Placed, CanPrint, looked};
+#![tactic(auto, using(crate::proofs::Pace::place_left))]
+
+ghost use Rattle.std.specs.Prelude.{◌≡◌, ℕ, ◌+◌, ◌-◌, ◌*◌, ◌≤◌, length, true, None, Some, IfNone, IfOk, IfSome, IsAscii, IsOk, MatchOption, OnOk};
+ghost use Rattle.demangle_v0.specs.Parsers.{Performed, PerformedRest, Placed, CanPrint, Paced, ReadsOn, LooksAt, looked};
 ghost use Rattle.demangle_v0.specs.Productions.{crate_path};
 ghost use Rattle.demangle_v0_grammar.specs.LookTotals.{total};
 ghost use Rattle.demangle_v0_tokens.specs.Tokens.{named_group, texts_of};
@@ -49,6 +51,9 @@ fn name_at(
         (named_group symbol.now place f).costs) (λ r. looks.new + name_size r.0 ≤ looks.old + total
         (named_group symbol.now place f).costs) }
     ensures in_bounds { IfSome result (λ r. IsIdentWithin symbol.now r.0) }
+    ensures paced { IfSome result (λ r. looks.new + name_size r.0 + 4 * (length symbol.now - r.2) ≤ looks.old + 4 *
+        (length symbol.now - place) + 5) }
+    ensures most { IfNone result (looks.new ≤ looks.old + 4 * (length symbol.now - place) + 5) }
 {
     let Ok((number, at)) = symbol.disambiguator_if(needs_number, place, looks) else {
         return None;
@@ -59,7 +64,7 @@ fn name_at(
     Some((name, number, next))
 }
 
-impl<const N: usize> Parser<'_, N> {
+impl Parser<'_, '_> {
     /// Reads and prints the name of a crate, which ends its path.
     #[inline(always)]
     pub(super) fn crate_name<V: Output>(
@@ -71,10 +76,12 @@ impl<const N: usize> Parser<'_, N> {
             output.old result self.new output.new }
         ensures ends { IfOk result (λ next. next ≡ Continuation.End) }
         ensures placed { Placed self.old self.new }
+        ensures reads { IsOk result → ReadsOn 5 self.old self.new }
+        ensures most { LooksAt 5 self.old self.new }
     {
         let at = self.state.place_or_abort()?;
         // A crate's disambiguator is its hash.
-        let has_hash = self.source.include_hash;
+        let has_hash = self.source.form.include_hash;
         let named = name_at(self.source.symbol, has_hash, at, &mut self.looks);
         let (name, number, next) = named.ok_or(StepError::Abort(FixedText::Invalid))?;
         self.state.place = Some(next);
@@ -87,7 +94,7 @@ impl<const N: usize> Parser<'_, N> {
     #[inline(never)]
     fn emit_name_after_error<V: Output>(&mut self, output: &mut V) -> Result<(), SinkRefused>
         requires can_step { CanPrint V.Output self.old output.old }
-        ensures prints { V.prints output.old (texts_of self.old.source.symbol.now self.old.source.include_hash
+        ensures prints { V.prints output.old (texts_of self.old.source.symbol.now self.old.source.form
             Token.NameAfterError) result output.new }
         ensures ready { OnOk result (V.ready output.new) }
         ensures parser { self.new ≡ looked self.old self.new.looks }
@@ -105,6 +112,8 @@ impl<const N: usize> Parser<'_, N> {
         ensures performs { Performed V.Output Continuation.NestedName self.old output.old result self.new output.new }
         ensures ends { IfOk result (λ next. next ≡ Continuation.End) }
         ensures placed { Placed self.old self.new }
+        ensures reads { IsOk result → ReadsOn 5 self.old self.new }
+        ensures most { LooksAt 5 self.old self.new }
     {
         self.state.is_bracket_open = false;
         self.emit_name_after_error(output)?;
@@ -121,6 +130,8 @@ impl<const N: usize> Parser<'_, N> {
         ensures performs { Performed V.Output Continuation.NestedName self.old output.old result self.new output.new }
         ensures ends { IfOk result (λ next. next ≡ Continuation.End) }
         ensures placed { Placed self.old self.new }
+        ensures reads { IsOk result → ReadsOn 5 self.old self.new }
+        ensures most { LooksAt 5 self.old self.new }
     {
         let Some(at) = self.state.place else {
             return self.name_after_error(output);

@@ -1,7 +1,7 @@
 //! Paths that are nested in one another. Their names are read and printed in a loop of their own,
 //! without frames and without a step for each.
-ghost use Rattle.std.specs.Prelude.{◌≡◌, ◌+◌, ◌<◌, ◌≤◌, ◌^◌, ◌++◌, length, None, true, IfOk, IsAscii, IsOk};
-ghost use Rattle.demangle_v0.specs.Parsers.{CanPrint, NamesEnd, NamesFollow, Same, restacked};
+ghost use Rattle.std.specs.Prelude.{◌≡◌, ◌+◌, ◌*◌, ◌<◌, ◌≤◌, ◌^◌, ◌++◌, length, None, true, IfOk, IsAscii, IsErr, IsOk};
+ghost use Rattle.demangle_v0.specs.Parsers.{CanPrint, NamesEnd, NamesFollow, ReadsOn, LooksAt, Same, restacked};
 ghost use Rattle.demangle_v0.specs.StepRuns.{name_frames};
 
 use crate::parser::frames::Frame;
@@ -13,16 +13,16 @@ use demangle_v0_tokens::output::Output;
 /// them print their names alike.
 const PLAIN_LETTER: u8 = b'v';
 
-impl<const N: usize> Parser<'_, N> {
+impl Parser<'_, '_> {
     /// Pushes the frames of `count` nested paths, one in another. `outer` levels of nesting are
     /// allowed before the first. No name of them is special.
     // Most other paths than that of a crate are in none, and need no call.
     #[inline(always)]
     pub(super) fn push_names(&mut self, count: u16, outer: u16)
-        requires room { length self.old.stack + count ≤ N }
+        requires room { length self.old.stack.frames + count ≤ self.old.stack.room }
         requires levels { count ≤ outer }
         requires small { self.old.state.lifetimes < 2 ^ 80 }
-        ensures { self.new ≡ restacked self.old (self.old.stack ++ name_frames
+        ensures { self.new ≡ restacked self.old (self.old.stack.frames ++ name_frames
             self.old.state.in_value self.old.state.lifetimes outer count) }
     {
         if count > 0 {
@@ -34,10 +34,10 @@ impl<const N: usize> Parser<'_, N> {
     // It is called in several places, and is not inlined, so that the loop of printing stays small.
     #[inline(never)]
     fn push_each_name(&mut self, count: u16, outer: u16)
-        requires room { length self.old.stack + count ≤ N }
+        requires room { length self.old.stack.frames + count ≤ self.old.stack.room }
         requires levels { count ≤ outer }
         requires small { self.old.state.lifetimes < 2 ^ 80 }
-        ensures { self.new ≡ restacked self.old (self.old.stack ++ name_frames
+        ensures { self.new ≡ restacked self.old (self.old.stack.frames ++ name_frames
             self.old.state.in_value self.old.state.lifetimes outer count) }
     {
         for done in 0..count {
@@ -60,12 +60,15 @@ impl<const N: usize> Parser<'_, N> {
         output: &mut V,
     ) -> Result<Continuation, StepError>
         requires can_step { CanPrint V.Output self.old output.old }
-        requires room { length self.old.stack + count ≤ N }
+        requires room { length self.old.stack.frames + count ≤ self.old.stack.room }
         requires levels { count ≤ outer }
         requires small { self.old.state.lifetimes < 2 ^ 80 }
         ensures end { NamesEnd V.Output count outer self.old output.old result self.new output.new }
         ensures same { Same self.old self.new }
         ensures grows { self.old.looks ≤ self.new.looks }
+        ensures fuel { self.new.fuel ≡ self.old.fuel }
+        ensures reads { IsOk result → ReadsOn (5 * count) self.old self.new }
+        ensures most { LooksAt (5 * count) self.old self.new }
     {
         let mut left = count;
         'names: while left > 0 {
@@ -94,13 +97,18 @@ impl<const N: usize> Parser<'_, N> {
         requires ascii { V.is_printed ≡ true → IsAscii self.old.source.symbol.now }
         requires ready { IsOk performed → V.ready output.old }
         requires no_pending_text { self.old.state.pending_text ≡ None }
-        requires room { length self.old.stack + count ≤ N }
+        requires room { length self.old.stack.frames + count ≤ self.old.stack.room }
         requires levels { count ≤ outer }
         requires small { self.old.state.lifetimes < 2 ^ 80 }
         ensures follow { NamesFollow V.Output performed count outer self.old output.old result
             self.new output.new }
         ensures same { Same self.old self.new }
         ensures grows { self.old.looks ≤ self.new.looks }
+        ensures fuel { self.new.fuel ≡ self.old.fuel }
+        ensures reads { IsOk result → ReadsOn (5 * count) self.old self.new }
+        ensures most { IsOk performed → LooksAt (5 * count) self.old self.new }
+        ensures stopped { IsErr performed → self.new.looks ≤ self.old.looks }
+        ensures inner { IsOk result → IsOk performed }
     {
         match performed {
             Ok(_) => self.plain_names(count, outer, output),

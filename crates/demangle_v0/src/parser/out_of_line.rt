@@ -1,5 +1,8 @@
 //! Continuations that few symbols have. Each is a call, so that the loops stay small.
-ghost use Rattle.demangle_v0.specs.Parsers.{Performed, CanPerform};
+#![tactic(auto, using(crate::proofs::Pace::place_left))]
+
+ghost use Rattle.std.specs.Prelude.{IsOk};
+ghost use Rattle.demangle_v0.specs.Parsers.{Performed, CanPerform, Paced};
 ghost use Rattle.demangle_v0.specs.Productions.{out_of_line_continuation};
 
 use crate::parser::machine::Parser;
@@ -22,7 +25,7 @@ pub enum OutOfLine {
     Field,
 }
 
-impl<const N: usize> Parser<'_, N> {
+impl Parser<'_, '_> {
     /// Performs a continuation that few symbols have, by a call.
     #[inline(always)]
     fn call_out_of_line<V: Output>(
@@ -32,6 +35,7 @@ impl<const N: usize> Parser<'_, N> {
     ) -> Result<Continuation, StepError>
         requires can_step { CanPerform V.Output (out_of_line_continuation continuation) self.old output.old }
         ensures performs { Performed V.Output (out_of_line_continuation continuation) self.old output.old result self.new output.new }
+        ensures paced { IsOk result → Paced 20 self.old self.new }
     {
         match continuation {
             OutOfLine::Lifetime => self.end_with_token(TokenKind::LifetimeIndex, output),
@@ -56,6 +60,7 @@ impl<const N: usize> Parser<'_, N> {
     ) -> Result<Continuation, StepError>
         requires can_step { CanPerform V.Output (out_of_line_continuation continuation) self.old output.old }
         ensures performs { Performed V.Output (out_of_line_continuation continuation) self.old output.old result self.new output.new }
+        ensures paced { IsOk result → Paced 20 self.old self.new }
     {
         // A copy: the results of other continuations need not be where this call writes its own.
         let next = self.call_out_of_line(continuation, output)?;

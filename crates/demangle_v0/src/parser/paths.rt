@@ -1,6 +1,9 @@
 //! Continuations of paths.
-ghost use Rattle.std.specs.Prelude.{◌≡◌, ◌+◌, ◌≤◌, false, Ok};
-ghost use Rattle.demangle_v0.specs.Parsers.{Performed, PerformedLast, PerformedRest, CanPerform, CanAdvance, AdvancedRest, Same};
+#![tactic(auto, using(crate::proofs::Pace::place_left))]
+
+ghost use Rattle.std.specs.Prelude.{◌≡◌, ◌+◌, ◌≤◌, false, IsOk, Ok};
+ghost use Rattle.demangle_v0.specs.Parsers.{Performed, PerformedLast, PerformedRest, CanPerform, CanAdvance, AdvancedRest, Paced, Same};
+ghost use Rattle.demangle_v0.specs.Steps.{step_looks_bound};
 ghost use Rattle.demangle_v0.specs.Loops.{first_looks};
 ghost use Rattle.demangle_v0_grammar.specs.Table.{path};
 ghost use Rattle.demangle_v0_tokens.specs.Tags.{path_of};
@@ -11,13 +14,14 @@ use demangle_v0_tokens::fixed_texts::FixedText;
 use demangle_v0_tokens::output::Output;
 use demangle_v0_tokens::tags::{PathKind, path_kind};
 
-impl<const N: usize> Parser<'_, N> {
+impl Parser<'_, '_> {
     /// Starts the path that has generic arguments, after its `I`.
     #[inline(always)]
     fn generic_path(&mut self) -> Continuation
         requires can_step { CanAdvance Continuation.Generic self.old }
         ensures performs { AdvancedRest (path_of self.old.state.in_value PathKind.Generic) 6 8 9 self.old (Ok
             result) self.new }
+        ensures paced { Paced 20 self.old self.new }
     {
         self.push(Continuation::Generic);
         Continuation::Path
@@ -31,6 +35,7 @@ impl<const N: usize> Parser<'_, N> {
         requires not_nested { tag ≡ 78 → ⊥ }
         ensures performs { PerformedRest V.Output (path self.old.state.in_value tag) 6 8 9 self.old output.old
             result self.new output.new }
+        ensures paced { IsOk result → Paced 20 self.old self.new }
     {
         let kind = path_kind(tag).ok_or(StepError::Abort(FixedText::Invalid))?;
         match kind {
@@ -67,6 +72,9 @@ impl<const N: usize> Parser<'_, N> {
         ensures same { Same self.old self.new }
         ensures grows { self.old.looks ≤ self.new.looks }
         ensures least { self.old.looks + first_looks Continuation.Path self.old.state ≤ self.new.looks }
+        ensures own_looks { self.new.looks ≤ self.old.looks + step_looks_bound self.old.source.symbol.now
+            self.old.state.place }
+        ensures paced { IsOk result → Paced 20 self.old self.new }
     {
         let mut at = self.state.place_or_abort()?;
         let outer = self.state.depth_left;
@@ -98,7 +106,7 @@ impl<const N: usize> Parser<'_, N> {
             };
             if !defers
                 | letter.is_ascii_uppercase()
-                | (N - self.stack.len() <= usize::from(count) + 1)
+                | (self.stack.room_left() <= usize::from(count) + 1)
             {
                 self.push_names(count, outer);
                 self.state.depth_left = left;

@@ -1,13 +1,15 @@
 //! Continuations of patterns.
-ghost use Rattle.std.specs.Prelude.{◌==◌, ◌+◌};
-ghost use Rattle.demangle_v0.specs.Parsers.{CanAdvance, Advanced};
+#![tactic(auto, using(crate::proofs::Pace::place_left))]
+
+ghost use Rattle.std.specs.Prelude.{◌==◌, ◌+◌, IsOk};
+ghost use Rattle.demangle_v0.specs.Parsers.{CanAdvance, Advanced, Paced};
 
 use crate::parser::machine::Parser;
 use crate::parser::{Continuation, StepError};
 use demangle_v0_tokens::fixed_texts::FixedText;
 use demangle_v0_tokens::tags::{PatternKind, pattern_kind};
 
-impl<const N: usize> Parser<'_, N> {
+impl Parser<'_, '_> {
     /// Reads the tag of a pattern, and starts the first constant or pattern in it.
     ///
     /// `NotNull` has neither, so the pattern ends with its text.
@@ -15,6 +17,7 @@ impl<const N: usize> Parser<'_, N> {
     pub(super) fn pattern(&mut self) -> Result<Continuation, StepError>
         requires can_step { CanAdvance Continuation.Pattern self.old }
         ensures performs { Advanced Continuation.Pattern self.old result self.new }
+        ensures paced { IsOk result → Paced 20 self.old self.new }
     {
         let at = self.state.place_or_abort()?;
         let (tag, next) = self.source.symbol.tag(at, &mut self.looks)?;
@@ -43,6 +46,7 @@ impl<const N: usize> Parser<'_, N> {
     pub(super) fn next_pattern(&mut self) -> Result<Continuation, StepError>
         requires can_step { CanAdvance Continuation.NextPattern self.old }
         ensures performs { Advanced Continuation.NextPattern self.old result self.new }
+        ensures paced { IsOk result → Paced 20 self.old self.new }
     {
         let at = self
             .state

@@ -1,6 +1,8 @@
 //! Continuations of reference types.
-ghost use Rattle.std.specs.Prelude.{◌≡◌, Ok};
-ghost use Rattle.demangle_v0.specs.Parsers.{Performed, CanPerform, AdvancedRest};
+#![tactic(auto, using(crate::proofs::Pace::place_left))]
+
+ghost use Rattle.std.specs.Prelude.{◌≡◌, Ok, IsOk};
+ghost use Rattle.demangle_v0.specs.Parsers.{Performed, CanPerform, AdvancedRest, Paced};
 ghost use Rattle.demangle_v0.specs.Measure.{Fits};
 ghost use Rattle.demangle_v0.specs.Continuations.{after_reference_lifetime, lifetime_continuation, spaced_lifetime};
 ghost use Rattle.demangle_v0_tokens.specs.Tokens.{print_looks};
@@ -41,12 +43,13 @@ fn spaced_lifetime(lifetimes: u128, index: u64, next: usize) -> (Token, Option<u
     )
 }
 
-impl<const N: usize> Parser<'_, N> {
+impl Parser<'_, '_> {
     /// Queues the `&` of a reference, and reads the `L` if a lifetime follows.
     #[inline(always)]
     pub(super) fn reference_type(&mut self, is_mut: bool) -> Continuation
         requires fits { Fits Continuation.«Type» self.old.state.depth_left self.old.state.lifetimes }
         ensures performs { AdvancedRest (reference_to is_mut) 5 50 9 self.old (Ok result) self.new }
+        ensures paced { Paced 20 self.old self.new }
     {
         self.put(FixedText::Ampersand);
         let Some(at) = self.state.place else {
@@ -76,6 +79,7 @@ impl<const N: usize> Parser<'_, N> {
         requires can_step { CanPerform V.Output Continuation.«Type» self.old output.old }
         ensures performs { Performed V.Output (lifetime_continuation is_mut) self.old output.old result self.new
             output.new }
+        ensures paced { IsOk result → Paced 20 self.old self.new }
     {
         let at = self.state.place_or_abort()?;
         let (index, next) = self.source.symbol.integer_62(at, &mut self.looks)?;

@@ -8,16 +8,32 @@ use crate::parser::machine::Parser;
 use crate::parser::steps::{Checkpoint, ReadOutcome};
 use crate::parser::{Continuation, State};
 use crate::printer::Unfinished;
+use demangle_symbol::form::Form;
+
+/// Returns whether an impl path is next, or generic arguments if they are folded.
+// It is not inlined, so that the loop of printing has one test for the four continuations.
+#[inline(never)]
+fn is_left_out(continuation: Continuation, form: Form) -> bool
+    ensures { result ≡ is_skipped form continuation }
+{
+    match continuation {
+        Continuation::InherentImplPath | Continuation::TraitImplPath => true,
+        Continuation::FirstArgument | Continuation::FirstTraitArgument => form.fold_arguments,
+        _ => false,
+    }
+}
 
 /// Returns whether a part that is not printed is next: an impl path, or generic arguments if they
 /// are folded.
 #[inline(always)]
-pub fn is_skipped(continuation: Continuation, fold_arguments: bool) -> bool
-    ensures { result ≡ is_skipped fold_arguments continuation }
+pub fn is_skipped(continuation: Continuation, form: Form) -> bool
+    ensures { result ≡ is_skipped form continuation }
 {
     match continuation {
-        Continuation::InherentImplPath | Continuation::TraitImplPath => true,
-        Continuation::FirstArgument | Continuation::FirstTraitArgument => fold_arguments,
+        Continuation::InherentImplPath
+        | Continuation::TraitImplPath
+        | Continuation::FirstArgument
+        | Continuation::FirstTraitArgument => is_left_out(continuation, form),
         _ => false,
     }
 }
@@ -47,7 +63,7 @@ fn after_skip(continuation: Continuation) -> Continuation
     }
 }
 
-impl<const N: usize> Parser<'_, N> {
+impl Parser<'_, '_> {
     /// Continues at a checkpoint, after the part there that is not printed. The part ends at
     /// `place`, or has a syntax error if that is `None`.
     #[inline(always)]
@@ -93,7 +109,7 @@ impl<const N: usize> Parser<'_, N> {
     /// them. Returns what is left to print if the stack is full before they end.
     #[inline(always)]
     pub(crate) fn skip_impl_path(&mut self) -> Option<Unfinished>
-        requires skipped { is_skipped self.old.source.fold_arguments self.old.continuation ≡ true }
+        requires skipped { is_skipped self.old.source.form self.old.continuation ≡ true }
         requires valid { IsValid self.old }
         ensures following { IfNone result (SkipsOver self.old self.new) }
         ensures unfinished { IfSome result (λ left. SkipsFull self.old left self.new) }

@@ -1,6 +1,8 @@
 //! Steps: each runs a continuation, prints the fixed text that it queued, and returns what is next.
+#![tactic(auto, using(crate::proofs::Pace::place_left))]
+
 ghost use Rattle.std.specs.Prelude.{◌≡◌, ◌+◌, ◌≤◌, true, false, IfSome, IfNone, IsOk, OnOk, length, IsAscii};
-ghost use Rattle.demangle_v0.specs.Parsers.{CanPerform, Same, env_of, restated, machine_of};
+ghost use Rattle.demangle_v0.specs.Parsers.{CanPerform, Same, env_of, restated, machine_of, Paced};
 ghost use Rattle.demangle_v0.specs.Steps.{looks_bound, resumed_of};
 ghost use Rattle.demangle_v0.specs.Loops.{FlushesText, StepDone, ResumesAt, first_looks, without_pending_text};
 ghost use Rattle.demangle_v0.specs.Skips.{is_skipped};
@@ -26,7 +28,7 @@ impl State {
     }
 }
 
-impl<const N: usize> Parser<'_, N> {
+impl Parser<'_, '_> {
     /// Prints the fixed text that a continuation queued, if there is one.
     #[inline(always)]
     fn flush_pending_text<V: Output>(&mut self, output: &mut V) -> Result<(), SinkRefused>
@@ -68,7 +70,7 @@ impl<const N: usize> Parser<'_, N> {
     ) -> Result<Continuation, SinkRefused>
         requires can_step { CanPerform V.Output continuation self.old output.old }
         requires unskipped { V.is_printed ≡ true → is_skipped
-            self.old.source.fold_arguments continuation ≡ false }
+            self.old.source.form continuation ≡ false }
         ensures stepped { StepsDone (env_of V.Output self.old) continuation (machine_of self.old output.old)
             result (machine_of self.new output.new) }
         ensures single { defers ≡ false → StepDone (env_of V.Output self.old) continuation
@@ -76,9 +78,10 @@ impl<const N: usize> Parser<'_, N> {
         ensures same { Same self.old self.new }
         ensures ready { IsOk result → V.ready output.new }
         ensures grows { self.old.looks ≤ self.new.looks }
-        ensures own_looks { defers ≡ false → self.new.looks ≤ self.old.looks +
-            looks_bound 20 self.old.source.symbol.now self.old.state.place }
+        ensures own_looks { self.new.looks ≤ self.old.looks + looks_bound 20 self.old.source.symbol.now
+            self.old.state.place }
         ensures least { self.old.looks + first_looks continuation self.old.state ≤ self.new.looks }
+        ensures paced { IsOk result → Paced 20 self.old self.new }
     {
         match self.dispatch(continuation, defers, output) {
             Ok(next) => {
@@ -88,6 +91,8 @@ impl<const N: usize> Parser<'_, N> {
             Err(StepError::Abort(fault)) => {
                 self.state.place = None;
                 self.state.is_bracket_open = false;
+                // A symbol is not accepted by printing after an error.
+                self.fuel = 0;
                 output.emit_error(&self.source, &Token::Fixed(fault), &mut self.looks)?;
                 Ok(Continuation::End)
             }
@@ -99,12 +104,13 @@ impl<const N: usize> Parser<'_, N> {
     /// which is removed, or `None` if only `base` frames are left.
     #[inline(always)]
     pub(crate) fn resume(&mut self, base: usize, continuation: Continuation) -> Option<Continuation>
-        ensures some { IfSome result (λ next. ResumesAt base continuation self.old.state self.old.stack next
-            self.new.state self.new.stack) }
-        ensures none { IfNone result ((continuation ≡ Continuation.End) × (length self.old.stack ≤ base) × (self.new
+        ensures some { IfSome result (λ next. ResumesAt base continuation self.old.state self.old.stack.frames next
+            self.new.state self.new.stack.frames) }
+        ensures none { IfNone result ((continuation ≡ Continuation.End) × (length self.old.stack.frames ≤ base) × (self.new
             ≡ self.old)) }
         ensures same { Same self.old self.new }
         ensures looks { self.new.looks ≡ self.old.looks }
+        ensures fuel { self.new.fuel ≡ self.old.fuel }
     {
         match continuation {
             Continuation::End => {

@@ -44,7 +44,7 @@ pub enum ReadOutcome {
     Failed,
 }
 
-impl<const N: usize> Parser<'_, N> {
+impl Parser<'_, '_> {
     /// Continues with the path at a place.
     #[inline(always)]
     pub(crate) fn start_path(&mut self, place: usize)
@@ -68,12 +68,12 @@ impl<const N: usize> Parser<'_, N> {
         requires valid { IsValid self.old }
         ensures reads { ReadSteps base self.old result self.new }
         ensures valid { result ≡ ReadOutcome.StackFull → IsValid self.new }
-        ensures full { result ≡ ReadOutcome.StackFull → N ≤ length self.new.stack }
+        ensures full { result ≡ ReadOutcome.StackFull → self.new.stack.room ≤ length self.new.stack.frames }
         ensures grows { self.old.looks ≤ self.new.looks }
         ensures same { Same self.old self.new }
     {
         let mut continuation = self.continuation;
-        'steps: while self.stack.len() < N {
+        'steps: while self.stack.has_room() {
             let Some(at) = self.resume(base, continuation) else {
                 self.continuation = Continuation::End;
                 return ReadOutcome::Complete;

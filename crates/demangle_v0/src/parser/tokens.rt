@@ -1,8 +1,10 @@
 //! Reads tokens and prints them.
+#![tactic(auto, using(crate::proofs::Pace::place_left))]
+
 ghost use Rattle.std.specs.Prelude.{◌≡◌, ◌+◌, ◌≤◌, true, false, IsOk, OnOk};
 ghost use Rattle.demangle_v0_grammar.specs.Items.{done};
 ghost use Rattle.demangle_v0_grammar.specs.LookTotals.{total};
-ghost use Rattle.demangle_v0.specs.Parsers.{PerformedRest, CanPrint, looked, token_group};
+ghost use Rattle.demangle_v0.specs.Parsers.{PerformedRest, CanPrint, looked, token_group, Paced};
 ghost use Rattle.demangle_v0.specs.Steps.{looks_bound};
 ghost use Rattle.demangle_v0_tokens.specs.Tokens.{IsTokenWithin};
 ghost use Rattle.demangle_v0_tokens.specs.Texts.{token_items};
@@ -15,7 +17,7 @@ use demangle_v0_tokens::output::Output;
 use demangle_v0_tokens::read::{TokenOutcome, TokenReader};
 use demangle_v0_tokens::token::{Token, TokenKind};
 
-impl<const N: usize> Parser<'_, N> {
+impl Parser<'_, '_> {
     /// Passes a token to the output.
     ///
     /// It fails if the output does.
@@ -27,7 +29,7 @@ impl<const N: usize> Parser<'_, N> {
     ) -> Result<(), SinkRefused>
         requires can_step { CanPrint V.Output self.old output.old }
         requires in_bounds { IsTokenWithin self.old.source.symbol.now token.now }
-        ensures prints { V.prints output.old (texts_of self.old.source.symbol.now self.old.source.include_hash
+        ensures prints { V.prints output.old (texts_of self.old.source.symbol.now self.old.source.form
             token.now) result output.new }
         ensures ready { OnOk result (V.ready output.new) }
         ensures no_output { V.is_printed ≡ false → IsOk result }
@@ -71,6 +73,7 @@ impl<const N: usize> Parser<'_, N> {
             output.old result self.new output.new }
         ensures own_looks { self.new.looks ≤ self.old.looks + looks_bound 8 self.old.source.symbol.now
             self.old.state.place }
+        ensures paced { IsOk result → Paced 8 self.old self.new }
     {
         match self.token_at(token_kind, output) {
             TokenOutcome::Parsed(token, next) => {

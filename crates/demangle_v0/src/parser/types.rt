@@ -1,6 +1,8 @@
 //! Continuations of types.
-ghost use Rattle.std.specs.Prelude.{if◌then◌else◌, ◌≡◌, ◌<◌, Ok, length, true, false, ◌^◌, ◌++◌, ◌∷◌, []};
-ghost use Rattle.demangle_v0.specs.Parsers.{Performed, PerformedRest, CanPerform, restacked};
+#![tactic(auto, using(crate::proofs::Pace::place_left))]
+
+ghost use Rattle.std.specs.Prelude.{if◌then◌else◌, ◌≡◌, ◌<◌, Ok, length, true, false, ◌^◌, ◌++◌, ◌∷◌, [], IsOk};
+ghost use Rattle.demangle_v0.specs.Parsers.{Performed, PerformedRest, CanPerform, restacked, Paced};
 ghost use Rattle.demangle_v0.specs.Traces.{frame_at};
 ghost use Rattle.demangle_v0_tokens.specs.Tags.{constructed_of, type_of};
 
@@ -22,7 +24,7 @@ pub(super) fn may_have_splat(continuation: Continuation) -> bool
     }
 }
 
-impl<const N: usize> Parser<'_, N> {
+impl Parser<'_, '_> {
     /// Reads a type up to its first nested type or path.
     ///
     /// If the type begins here and has a `w`, only the `w` is read, and the rest is left for the
@@ -36,6 +38,7 @@ impl<const N: usize> Parser<'_, N> {
         requires can_step { CanPerform V.Output Continuation.«Type» self.old output.old }
         ensures performs { Performed V.Output (if may_have_splat then Continuation.«Type» else Continuation.TaggedType) self.old
             output.old result self.new output.new }
+        ensures paced { IsOk result → Paced 20 self.old self.new }
     {
         let Some(at) = self.state.place else {
             return Err(StepError::Abort(FixedText::AfterError));
@@ -84,6 +87,7 @@ impl<const N: usize> Parser<'_, N> {
         requires can_step { CanPerform V.Output Continuation.DynBinder self.old output.old }
         ensures performs { PerformedRest V.Output (type_of kind) 5 50 9 self.old output.old result self.new
             output.new }
+        ensures paced { IsOk result → Paced 20 self.old self.new }
     {
         match kind {
             TypeKind::SharedReference => Ok(self.reference_type(false)),
@@ -108,6 +112,7 @@ impl<const N: usize> Parser<'_, N> {
         requires can_step { CanPerform V.Output Continuation.DynBinder self.old output.old }
         ensures performs { PerformedRest V.Output (constructed_of kind) 5 50 9 self.old output.old result
             self.new output.new }
+        ensures paced { IsOk result → Paced 20 self.old self.new }
     {
         match kind {
             ConstructedType::ConstPointer => {
@@ -142,12 +147,12 @@ impl<const N: usize> Parser<'_, N> {
     /// Pushes a frame that does nothing but print, if `output` prints.
     #[inline(always)]
     pub(super) fn push_if_printing<V: Output>(&mut self, continuation: Continuation, output: &V)
-        requires room { length self.old.stack < N }
+        requires room { length self.old.stack.frames < self.old.stack.room }
         requires small { self.old.state.lifetimes < 2 ^ 80 }
-        ensures parser { self.new ≡ restacked self.old self.new.stack }
-        ensures is_printed { V.is_printed ≡ true → self.new.stack ≡ self.old.stack ++ frame_at continuation
-            self.old.state ∷ [] }
-        ensures without_output { V.is_printed ≡ false → self.new.stack ≡ self.old.stack }
+        ensures parser { self.new ≡ restacked self.old self.new.stack.frames }
+        ensures is_printed { V.is_printed ≡ true → self.new.stack.frames ≡ self.old.stack.frames ++ frame_at
+            continuation self.old.state ∷ [] }
+        ensures without_output { V.is_printed ≡ false → self.new.stack.frames ≡ self.old.stack.frames }
     {
         if output.is_printing() {
             self.push(continuation);
@@ -160,6 +165,7 @@ impl<const N: usize> Parser<'_, N> {
         requires can_step { CanPerform V.Output Continuation.ArrayLength self.old output.old }
         ensures performs { Performed V.Output Continuation.ArrayLength self.old output.old (Ok result) self.new
             output.new }
+        ensures paced { Paced 20 self.old self.new }
     {
         self.push_if_printing(Continuation::CloseBracket, output);
         self.put(FixedText::Semicolon);

@@ -1,6 +1,8 @@
 //! Continuations of variants and of their fields.
-ghost use Rattle.std.specs.Prelude.{◌≡◌, None, Ok, Some};
-ghost use Rattle.demangle_v0.specs.Parsers.{Performed, CanPerform, CanAdvance, Advanced, AdvancedRest, braced};
+#![tactic(auto, using(crate::proofs::Pace::place_left))]
+
+ghost use Rattle.std.specs.Prelude.{◌≡◌, None, Ok, Some, IsOk};
+ghost use Rattle.demangle_v0.specs.Parsers.{Performed, CanPerform, CanAdvance, Advanced, AdvancedRest, braced, Paced};
 ghost use Rattle.demangle_v0_tokens.specs.Tags.{variant_of};
 
 use crate::parser::machine::Parser;
@@ -11,13 +13,14 @@ use demangle_v0_tokens::read::TokenOutcome;
 use demangle_v0_tokens::tags::{VariantKind, variant_kind};
 use demangle_v0_tokens::token::TokenKind;
 
-impl<const N: usize> Parser<'_, N> {
+impl Parser<'_, '_> {
     /// Ends a variant without fields, and queues its closing brace outside value position.
     #[inline(always)]
     fn unit_variant(&mut self) -> Continuation
         requires no_pending_text { self.old.state.pending_text ≡ None }
         ensures performs { AdvancedRest (variant_of self.old.state.in_value VariantKind.Unit) 3 5 3 self.old
             (Ok result) self.new }
+        ensures paced { Paced 20 self.old self.new }
     {
         self.state.is_bracket_open = false;
         if self.state.in_value {
@@ -48,6 +51,7 @@ impl<const N: usize> Parser<'_, N> {
     pub(super) fn variant(&mut self) -> Result<Continuation, StepError>
         requires can_step { CanAdvance Continuation.Variant self.old }
         ensures performs { Advanced Continuation.Variant self.old result self.new }
+        ensures paced { IsOk result → Paced 20 self.old self.new }
     {
         let at = self.state.place_or_abort()?;
         let (tag, next) = self.source.symbol.tag(at, &mut self.looks)?;
@@ -70,6 +74,7 @@ impl<const N: usize> Parser<'_, N> {
     pub(super) fn field<V: Output>(&mut self, output: &mut V) -> Result<Continuation, StepError>
         requires can_step { CanPerform V.Output Continuation.Field self.old output.old }
         ensures performs { Performed V.Output Continuation.Field self.old output.old result self.new output.new }
+        ensures paced { IsOk result → Paced 20 self.old self.new }
     {
         match self.token_at(TokenKind::FieldName, output) {
             TokenOutcome::Parsed(token, next) => {

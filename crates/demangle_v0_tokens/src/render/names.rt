@@ -10,6 +10,7 @@ use crate::render::numbers;
 use crate::source::Source;
 use demangle_sink::{SinkRefused, SizeLimitedFmtAdapter, TextSink, put_char};
 use demangle_symbol::cursor::{Ident, Looks};
+use demangle_symbol::form::Form;
 
 /// A name in a namespace.
 #[derive(Clone, Copy)]
@@ -26,13 +27,13 @@ pub(super) struct NamespacedName {
 #[inline(never)]
 fn put_disambiguator<S: TextSink>(
     number: u64,
-    include_hash: bool,
+    form: Form,
     out: &mut SizeLimitedFmtAdapter<'_, S>,
 ) -> Result<(), SinkRefused>
     requires { Ready S.TextSink out.old }
-    ensures { Prints S.TextSink out.old (disambiguator_texts include_hash number) result out.new }
+    ensures { Prints S.TextSink out.old (disambiguator_texts form number) result out.new }
 {
-    if !include_hash {
+    if !form.include_hash {
         return Ok(());
     }
     if number == 0 {
@@ -99,13 +100,13 @@ impl Source<'_> {
         requires parts { IsIdentWithin self.now.symbol.now name.now }
         requires ascii { IsAscii self.now.symbol.now }
         requires ready { Ready S.TextSink out.old }
-        ensures prints { Prints S.TextSink out.old (crate_texts self.now.include_hash (name_in
+        ensures prints { Prints S.TextSink out.old (crate_texts self.now.form (name_in
             self.now.symbol.now name.now) number) result out.new }
         ensures grows { looks.old ≤ looks.new }
         ensures most { looks.new ≤ looks.old + name_size name.now }
     {
         name.write_to(self.symbol, out, looks)?;
-        put_disambiguator(number, self.include_hash, out)
+        put_disambiguator(number, self.form, out)
     }
 
     /// Returns `true` if both parts of a name are empty.
@@ -116,10 +117,7 @@ impl Source<'_> {
         requires ascii { IsAscii self.now.symbol.now }
         ensures { result ≡ is_empty_name (name_in self.now.symbol.now name.now) }
     {
-        if self.symbol.span(name.ascii).len() > 0 {
-            return false;
-        }
-        self.symbol.span(name.punycode).len() == 0
+        name.ascii.to <= name.ascii.from && name.punycode.to <= name.punycode.from
     }
 
     /// Prints a text, and a name after it. It prints nothing if the name is empty.

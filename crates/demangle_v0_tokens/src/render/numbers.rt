@@ -126,9 +126,9 @@ impl Source<'_> {
         out: &mut SizeLimitedFmtAdapter<'_, S>,
     ) -> Result<(), SinkRefused>
         requires { Ready S.TextSink out.old }
-        ensures { Prints S.TextSink out.old (type_texts self.now.include_hash tag) result out.new }
+        ensures { Prints S.TextSink out.old (type_texts self.now.form tag) result out.new }
     {
-        if !self.include_hash {
+        if !self.form.include_hash {
             return Ok(());
         }
         match basic_type_text(tag) {
@@ -150,7 +150,7 @@ impl Source<'_> {
         requires ascii { IsAscii self.now.symbol.now }
         requires part { PartIn self.now.symbol.now nibbles }
         requires ready { Ready S.TextSink out.old }
-        ensures { Prints S.TextSink out.old (constant_texts self.now.symbol.now self.now.include_hash value nibbles tag)
+        ensures { Prints S.TextSink out.old (constant_texts self.now.symbol.now self.now.form value nibbles tag)
             result out.new }
     {
         self.put_number(value, nibbles, out)?;

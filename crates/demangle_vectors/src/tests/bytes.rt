@@ -12,7 +12,7 @@ use std::test::Fail;
 use test_doubles::streams::{ChunkReader, FailingWriter};
 
 /// Asserts the output for bytes that are read in chunks of `size`.
-fn assert_filters(
+pub(super) fn assert_filters(
     rt: &impl Abort,
     alloc: Global,
     text: &[u8],

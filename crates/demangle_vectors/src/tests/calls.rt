@@ -60,6 +60,11 @@ fn a_value_prints_into_several_sinks(rt: HostRuntime) -> Result<(), Fail> {
     Ok(())
 }
 
+/// Returns a clone of a value.
+fn clone_of<T: Clone>(value: &T) -> Result<T, Fail> {
+    Ok(value.clone()?)
+}
+
 #[test]
 fn errors_are_values(rt: HostRuntime) -> Result<(), Fail> {
     let alloc = rt.alloc();
@@ -73,7 +78,7 @@ fn errors_are_values(rt: HostRuntime) -> Result<(), Fail> {
     }
     let refused = SinkRefused;
     let copied = refused;
-    let cloned = refused.clone()?;
+    let cloned = clone_of(&refused)?;
     assert_eq!(rt;
         format!(in alloc; "{refused:?} {copied:?} {cloned:?}")?.as_str(),
         "SinkRefused SinkRefused SinkRefused"
@@ -111,7 +116,6 @@ fn memory_is_a_sink(rt: HostRuntime) {
 
 #[test]
 fn memory_keeps_the_prefix(rt: HostRuntime) {
-    let mut memory = [9; 12];
     for (room, text) in [
         (0, ""),
         (1, "f"),
@@ -119,7 +123,7 @@ fn memory_keeps_the_prefix(rt: HostRuntime) {
         (8, "foo::bar"),
         (9, "foo::bar"),
     ] {
-        memory = [9; 12];
+        let mut memory = [9; 12];
         let mut sink = SliceSink::new(&mut memory[..room]);
         assert!(rt; demangle("_RNvC3foo3bar").write_to(&mut sink, true).is_ok());
         assert_eq!(rt; sink.len(), 8, "in {room}");

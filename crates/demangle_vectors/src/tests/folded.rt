@@ -199,9 +199,11 @@ fn a_text_is_folded_into_a_sink(rt: HostRuntime) {
     assert_eq!(rt; sink.as_str(), "x foo::bar::{size limit reached} y");
 }
 
-/// Runs that the filter looks up in its memo, with a limit and the folded texts, with the hash and
-/// without it.
-const RUNS: [(&[u8], usize, &[u8], &[u8]); 18] = [
+/// A run, a limit, and the folded texts under it, with the hash and without it.
+type Row = (&'static [u8], usize, &'static [u8], &'static [u8]);
+
+/// Runs that the filter looks up in its memo.
+const RUNS: [Row; 18] = [
     // A lifetime in a list names none. The second path is not printed at all.
     (
         b"_RINvC5crate7genericRL1_uE",

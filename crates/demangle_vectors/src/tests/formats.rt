@@ -61,39 +61,59 @@ fn a_symbol_of_ten_thousand_bytes_is_written_whole(rt: HostRuntime) -> Result<()
     Ok(())
 }
 
-/// Takes a given number of texts and then fails.
+/// Takes texts of a given number of bytes together, and fails at the first that exceeds it.
 #[derive(Drop)]
 struct Refusing {
     left: usize,
 }
 
 impl fmt::Write for Refusing {
-    fn write_str(&mut self, _s: &str) -> fmt::Result {
-        if self.left == 0 {
+    fn write_str(&mut self, s: &str) -> fmt::Result {
+        if s.len() > self.left {
             return Err(fmt::Error);
         }
-        self.left -= 1;
+        self.left -= s.len();
         Ok(())
     }
 }
 
 #[test]
-fn a_refused_piece_is_an_error(rt: HostRuntime) {
+fn a_refused_text_is_an_error(rt: HostRuntime) {
     let symbol = demangle("_ZN1a1bE.x");
-    for left in 0..5usize {
+    for left in 0..7usize {
         let mut text = Refusing { left };
         assert_eq!(rt;
             write!(text, "{}", symbol).is_ok(),
-            left == 4,
+            left == 6,
             "with {left}"
         );
         let mut text = Refusing { left };
         assert_eq!(rt;
             write!(text, "{:?}", symbol).is_ok(),
-            left == 4,
+            left == 6,
             "with {left}"
         );
     }
     let mut text = Refusing { left: 0 };
     assert!(rt; write!(text, "{}", demangle("_ZNE")).is_ok());
+}
+
+#[test]
+fn a_refused_text_of_a_long_path_is_an_error(rt: HostRuntime) -> Result<(), Fail> {
+    let alloc = rt.alloc();
+    let mut symbol = String::from_str(alloc, "_ZN1a")?;
+    for _ in 0..150 {
+        symbol.push_str("1b")?;
+    }
+    symbol.push_str("E.x")?;
+    let symbol = demangle(symbol.as_str());
+    for left in 0..454usize {
+        let mut text = Refusing { left };
+        assert_eq!(rt;
+            write!(text, "{}", symbol).is_ok(),
+            left == 453,
+            "with {left}"
+        );
+    }
+    Ok(())
 }

@@ -12,9 +12,11 @@ const TIMES: usize = 5;
 /// A symbol whose text is longer than a memo stores.
 const LONG: &[u8] = b"_RIC1aTyyyyyyyyyyyyyyyyETB3_B3_B3_ETBl_Bl_Bl_ETBw_Bw_Bw_EE";
 
-/// Runs that a memo looks up, with a limit and the texts printed under it, with the hash and
-/// without it.
-const ROWS: [(&[u8], usize, &[u8], &[u8]); 15] = [
+/// A run, a limit, and the texts printed under it, with the hash and without it.
+type Row = (&'static [u8], usize, &'static [u8], &'static [u8]);
+
+/// Runs that a memo looks up.
+const ROWS: [Row; 15] = [
     (
         b"_ZN3foo17h05af221e174051e9E",
         1_000_000,

@@ -75,7 +75,7 @@ fn arguments(alloc: Global, path: &str, each: &str, count: usize) -> Result<Stri
 }
 
 /// Asserts what a call writes into memory, and that it leaves the rest of the memory.
-fn assert_writes(rt: &impl Abort, text: &str, format: Format, wanted: &[u8]) {
+fn assert_filters_to(rt: &impl Abort, text: &str, format: Format, wanted: &[u8]) {
     let mut memory = [7; ROOM];
     let len = demangle_slice_formatted(text.as_bytes(), &mut memory, format);
     assert_eq!(rt; len, Some(wanted.len()), "of {text}");
@@ -88,7 +88,7 @@ fn assert_writes(rt: &impl Abort, text: &str, format: Format, wanted: &[u8]) {
 
 /// Asserts that a call writes into memory what another call puts into a sink, which validates each
 /// run before it prints it.
-fn assert_is_the_same(rt: &impl Abort, alloc: Global, text: &str) -> Result<(), Fail> {
+fn assert_filters_alike(rt: &impl Abort, alloc: Global, text: &str) -> Result<(), Fail> {
     for limit in [0, 5, 767, 768, 1_000_000] {
         for include_hash in [true, false] {
             for format in [
@@ -155,14 +155,14 @@ fn runs_of_each_kind(rt: HostRuntime) -> Result<(), Fail> {
         ("_RUBY", "_RUBY", "_RUBY"),
         ("_R", "_R", "_R"),
     ] {
-        assert_writes(
+        assert_filters_to(
             &rt,
             run,
             Format::unfolded(true, 1_000_000),
             plain.as_bytes(),
         );
-        assert_writes(&rt, run, Format::folded(true, 1_000_000), folded.as_bytes());
-        assert_is_the_same(&rt, rt.alloc(), run)?;
+        assert_filters_to(&rt, run, Format::folded(true, 1_000_000), folded.as_bytes());
+        assert_filters_alike(&rt, rt.alloc(), run)?;
     }
     Ok(())
 }
@@ -174,20 +174,20 @@ fn a_chain_of_references_takes_all_numbers_of_steps(rt: HostRuntime) -> Result<(
     for count in 0..60usize {
         let symbol = chain(alloc, count, "E")?;
         let text = arguments(alloc, "a::b", "()", count.saturating_add(1))?;
-        assert_writes(&rt, symbol.as_str(), format, text.as_bytes());
+        assert_filters_to(&rt, symbol.as_str(), format, text.as_bytes());
         let damaged = chain(alloc, count, "")?;
-        assert_writes(&rt, damaged.as_str(), format, damaged.as_bytes());
+        assert_filters_to(&rt, damaged.as_str(), format, damaged.as_bytes());
     }
     for count in [0usize, 4, 8, 16, 32, 40, 44, 48, 59] {
-        assert_is_the_same(&rt, alloc, chain(alloc, count, "E")?.as_str())?;
-        assert_is_the_same(&rt, alloc, chain(alloc, count, "")?.as_str())?;
+        assert_filters_alike(&rt, alloc, chain(alloc, count, "E")?.as_str())?;
+        assert_filters_alike(&rt, alloc, chain(alloc, count, "")?.as_str())?;
     }
     Ok(())
 }
 
 /// Asserts that references to a name of this length print it, and that the same run without its end
 /// is not a symbol.
-fn assert_names_print(
+fn assert_filters_names(
     rt: &impl Abort,
     alloc: Global,
     len: usize,
@@ -200,9 +200,9 @@ fn assert_names_print(
     }
     let text = arguments(alloc, "a", name.as_str(), count.saturating_add(1))?;
     let symbol = names(alloc, len, count, "E")?;
-    assert_writes(rt, symbol.as_str(), format, text.as_bytes());
+    assert_filters_to(rt, symbol.as_str(), format, text.as_bytes());
     let damaged = names(alloc, len, count, "")?;
-    assert_writes(rt, damaged.as_str(), format, damaged.as_bytes());
+    assert_filters_to(rt, damaged.as_str(), format, damaged.as_bytes());
     Ok(())
 }
 
@@ -210,7 +210,7 @@ fn assert_names_print(
 fn texts_have_all_lengths_about_that_of_the_buffer(rt: HostRuntime) -> Result<(), Fail> {
     for count in 1..=2usize {
         for len in (245..260usize).chain(360..385usize) {
-            assert_names_print(&rt, rt.alloc(), len, count)?;
+            assert_filters_names(&rt, rt.alloc(), len, count)?;
         }
     }
     Ok(())
@@ -220,7 +220,7 @@ fn texts_have_all_lengths_about_that_of_the_buffer(rt: HostRuntime) -> Result<()
 fn texts_have_all_lengths_about_twice_that_of_the_run(rt: HostRuntime) -> Result<(), Fail> {
     for count in 2..=9usize {
         for len in 10..40usize {
-            assert_names_print(&rt, rt.alloc(), len, count)?;
+            assert_filters_names(&rt, rt.alloc(), len, count)?;
         }
     }
     Ok(())
@@ -232,7 +232,7 @@ fn a_run_that_was_printed_in_vain_leaves_no_text(rt: HostRuntime) -> Result<(), 
     let format = Format::unfolded(true, 1_000_000);
     // The text of such a run would be longer than the run.
     let damaged = names(alloc, 20, 8, "")?;
-    assert_writes(&rt, damaged.as_str(), format, damaged.as_bytes());
+    assert_filters_to(&rt, damaged.as_str(), format, damaged.as_bytes());
     let mut text = String::new(alloc);
     let mut wanted = String::new(alloc);
     for count in 0..40usize {
@@ -246,8 +246,8 @@ fn a_run_that_was_printed_in_vain_leaves_no_text(rt: HostRuntime) -> Result<(), 
         wanted.push_str(if count % 11 == 0 { run } else { "foo::bar" })?;
         wanted.push_str(" ")?;
     }
-    assert_writes(&rt, text.as_str(), format, wanted.as_bytes());
-    assert_is_the_same(&rt, alloc, text.as_str())
+    assert_filters_to(&rt, text.as_str(), format, wanted.as_bytes());
+    assert_filters_alike(&rt, alloc, text.as_str())
 }
 
 #[test]
@@ -259,7 +259,7 @@ fn a_tuple_refers_to_itself(rt: HostRuntime) -> Result<(), Fail> {
         let format = Format::unfolded(true, 1_000_000);
         let len = demangle_slice_formatted(symbol.as_bytes(), &mut memory, format);
         assert_eq!(rt; len, Some(1032), "with {zeros} zeros");
-        assert_is_the_same(&rt, alloc, symbol.as_str())?;
+        assert_filters_alike(&rt, alloc, symbol.as_str())?;
     }
     Ok(())
 }

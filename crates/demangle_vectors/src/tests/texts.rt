@@ -66,7 +66,7 @@ fn a_limit_cuts_each_symbol_of_a_text(rt: HostRuntime) {
 }
 
 /// Asserts the output for bytes in a slice with room for it, and in smaller ones.
-fn assert_fills(rt: &impl Abort, text: &[u8], wanted: &[u8]) {
+pub(super) fn assert_fills(rt: &impl Abort, text: &[u8], wanted: &[u8]) {
     for size in 0..=wanted.len().saturating_add(1).min(128) {
         let mut bytes = [7; 128];
         let memory = bytes.get_mut(..size).unwrap_or(&mut []);

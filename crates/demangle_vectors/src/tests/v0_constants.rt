@@ -126,9 +126,8 @@ fn references(rt: HostRuntime) -> Result<(), Fail> {
 
 #[test]
 fn arrays_and_tuples(rt: HostRuntime) -> Result<(), Fail> {
-    for (constant, plain, alt) in [("Ae61_E", "{[*\"a\"]}", "{[*\"a\"]}")] {
-        assert_constant(&rt, rt.alloc(), constant, plain, alt)?;
-    }
+    let text = "{[*\"a\"]}";
+    assert_constant(&rt, rt.alloc(), "Ae61_E", text, text)?;
     Ok(())
 }
 

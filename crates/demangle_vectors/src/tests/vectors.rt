@@ -226,7 +226,7 @@ const REFUSED: &[&str] = &[
     "_ZN2222222222222222222222EE",
     "_ZN5*70527e27.ll34csaғE",
     "_ZN5*70527a54.ll34_$b.1E",
-    "_ZN5~saäb4e\n2734cOsbE\n5usage20h)3\0\0\0\0\0\0\07e2734cOsbE",
+    "_ZN5~saäb4e\n2734cOsbE\n5usage20h)3\0\0\0\0\0\0\u{0}7e2734cOsbE",
 ];
 
 /// Symbols whose texts are long.

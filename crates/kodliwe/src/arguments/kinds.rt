@@ -1,11 +1,12 @@
 //! Finds the kind of one argument.
 ghost use Rattle.std.specs.Prelude.{◌≡◌, codes, false, nat_eq};
-ghost use Rattle.std.specs.Prelude.{None, Some, IfSome, IfNone};
+ghost use Rattle.std.specs.Prelude.{None, Some, IfSome, IfNone, IfOk, IfErr};
 ghost use Rattle.std.specs.List.{starts_with};
-ghost use Rattle.kodliwe.specs.CommandLine.{IsAlone, HasValue, IsNotOption};
+ghost use Rattle.kodliwe.specs.CommandLine.{IsAlone, HasValue, IsNotOption, IsInvalidShell, shell_name, rejection_of};
 ghost use Rattle.kodliwe.specs.OneArgument.{IsArgument};
 
-use crate::arguments::{Argument, ValuedOption};
+use crate::about::{About, Shell};
+use crate::arguments::{Argument, UsageError, ValuedOption};
 
 /// Returns whether an argument is the option `short` or `long`, and the value if the argument
 /// includes it, as `-iFILE` or `--input=FILE`.
@@ -40,9 +41,11 @@ pub(super) fn classify(argument: &str) -> Argument<'_>
     ensures fold { argument.now ≡ codes "--fold" → result ≡ Argument.Fold }
     ensures end { argument.now ≡ codes "--" → result ≡ Argument.End }
     ensures stdin { argument.now ≡ codes "-" → result ≡ Argument.Stdin }
-    ensures h { argument.now ≡ codes "-h" → result ≡ Argument.Help }
-    ensures help { argument.now ≡ codes "--help" → result ≡ Argument.Help }
-    ensures version { argument.now ≡ codes "--version" → result ≡ Argument.Version }
+    ensures h { argument.now ≡ codes "-h" → result ≡ Argument.Print About.Help }
+    ensures help { argument.now ≡ codes "--help" → result ≡ Argument.Print About.Help }
+    ensures version { argument.now ≡ codes "--version" → result ≡ Argument.Print About.Version }
+    ensures man { argument.now ≡ codes "--man" → result ≡ Argument.Print About.Manual }
+    ensures shell { argument.now ≡ codes "--completions" → result ≡ Argument.Completions }
     ensures input { argument.now ≡ codes "--input" → result ≡ Argument.Valued ValuedOption.Input None }
 {
     if !argument.starts_with("-") {
@@ -61,10 +64,19 @@ pub(super) fn classify(argument: &str) -> Argument<'_>
         return Argument::Fold;
     }
     if argument == "-h" || argument == "--help" {
-        return Argument::Help;
+        return Argument::Print(About::Help);
     }
     if argument == "-V" || argument == "--version" {
-        return Argument::Version;
+        return Argument::Print(About::Version);
+    }
+    if argument == "--man" {
+        return Argument::Print(About::Manual);
+    }
+    if argument == "--completions" {
+        return Argument::Completions;
+    }
+    if let Some(name) = argument.strip_prefix("--completions=") {
+        return Argument::CompletionsOf(name);
     }
     if let Some(value) = option_value(argument, "-i", "--input") {
         return Argument::Valued(ValuedOption::Input, value);
@@ -76,4 +88,17 @@ pub(super) fn classify(argument: &str) -> Argument<'_>
         return Argument::Valued(ValuedOption::Limit, value);
     }
     Argument::Unknown
+}
+
+/// Returns the shell of this name. Fails if there is none.
+pub(super) fn shell_of(name: &str) -> Result<Shell, UsageError<'_>>
+    ensures named { IfOk result (λ shell. name.now ≡ shell_name shell) }
+    ensures refused { IfErr result (λ fault. IfSome (rejection_of fault) (IsInvalidShell name.now)) }
+{
+    match name {
+        "bash" => Ok(Shell::Bash),
+        "zsh" => Ok(Shell::Zsh),
+        "fish" => Ok(Shell::Fish),
+        _ => Err(UsageError::BadShell(name)),
+    }
 }

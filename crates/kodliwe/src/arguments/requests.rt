@@ -1,12 +1,10 @@
 //! Adds what the arguments say to a request.
 ghost use Rattle.std.specs.Prelude.{◌≡◌, ◌++◌, ◌∷◌, [], codes, false};
-ghost use Rattle.std.specs.Prelude.{None, Some, OnOk, IfErr, IfSome};
-ghost use Rattle.kodliwe.specs.CommandLine.{Sets, IsInvalidValue};
-ghost use Rattle.kodliwe.specs.CommandLine.{with_line};
+ghost use Rattle.std.specs.Prelude.{None, OnOk, IfErr, IfSome};
+ghost use Rattle.kodliwe.specs.CommandLine.{Sets, IsInvalidValue, symbol};
 ghost use Rattle.kodliwe.specs.CommandLine.{options_of, rejection_of};
 
 use crate::arguments::{InputSource, Request, Target, UsageError, ValuedOption};
-use rustc_demangle::{demangle_bytes, run_start};
 use std::alloc::{AllocError, Global};
 
 /// The default limit on the bytes of a path.
@@ -27,30 +25,16 @@ impl<'a> Request<'a> {
             include_hash: false,
             fold_arguments: false,
             limit: LIMIT,
-            plain_argument: None,
         }
     }
 
-    /// Adds a symbol as a separate line. Stores it as `plain_argument` if it is the first that the
-    /// filter does not change. Fails if memory can't be allocated.
-    pub(super) fn add_symbol(&mut self, alloc: Global, symbol: &'a str) -> Result<(), AllocError>
+    /// Adds a SYMBOL. Fails if memory can't be allocated.
+    pub(super) fn add_symbol(&mut self, argument: &'a str) -> Result<(), AllocError>
         ensures { OnOk result (options_of self.new ≡ record (options_of self.old) {
-          parts = with_line symbol.now (options_of self.old).parts;
+          parts = symbol argument.now ∷ (options_of self.old).parts;
         }) }
     {
-        if self.plain_argument.is_none() && !has_symbol(alloc, symbol)? {
-            self.plain_argument = Some(symbol);
-        }
-        let mut lines = match self.sources.pop() {
-            Some(InputSource::Symbols(lines)) => lines,
-            Some(source) => {
-                self.sources.push(source)?;
-                Vec::new(alloc)
-            }
-            None => Vec::new(alloc),
-        };
-        push_line(&mut lines, symbol)?;
-        self.sources.push(InputSource::Symbols(lines))?;
+        self.sources.push(InputSource::Symbol(argument))?;
         Ok(())
     }
 
@@ -117,26 +101,4 @@ impl<'a> Request<'a> {
         }
         Ok(())
     }
-}
-
-/// Returns whether a text contains a symbol, which the filter would replace. Fails if memory can't
-/// be allocated.
-fn has_symbol(alloc: Global, text: &str) -> Result<bool, AllocError> {
-    if run_start(text.as_bytes()).is_none() {
-        return Ok(false);
-    }
-    let mut filtered = Vec::new(alloc);
-    match demangle_bytes(alloc, &mut text.as_bytes(), &mut filtered, false) {
-        Ok(()) => Ok(filtered.as_slice() != text.as_bytes()),
-        Err(_) => Err(AllocError),
-    }
-}
-
-/// Appends a text and a line feed. Fails if memory can't be allocated.
-fn push_line(lines: &mut Vec<u8>, text: &str) -> Result<(), AllocError>
-    ensures { OnOk result (lines.new.items ≡ lines.old.items ++ (text.now ++ 10 ∷ [])) }
-{
-    lines.extend_from_slice(text.as_bytes())?;
-    lines.push(b'\n')?;
-    Ok(())
 }

@@ -1,34 +1,41 @@
 //! Filters the inputs into the output that the arguments name.
 use crate::coalescing::CoalescingOutput;
 use crate::error::{OUT_OF_MEMORY, report_call};
-use crate::filtering::{BUFFER, FilterOutcome, Input, Settings, filter_all};
-use crate::inputs::SourceReader;
+use crate::filtering::{BUFFER, FilterOutcome, Part, Settings, filter_all};
+use crate::inputs::{LineReader, SourceReader};
 use crate::program::report_line;
 use crate::replacement::{Replacement, folder_of, open_output};
-use std::fs::{Files, OpenFile};
+use std::fs::Files;
 use std::io::{BufWriter, Write};
+use std::os::fd::AsFd;
 
-/// The inputs to filter, and how.
+/// The parts of the output that the arguments request.
+pub(super) type SourceParts<'a, F> = Vec<Part<'a, LineReader<SourceReader<'a, F>>>>;
+
+/// The parts to write, and how.
 #[derive(Drop)]
 pub(super) struct Filtering<'a, F: Files> {
     pub(super) files: &'a F,
-    pub(super) inputs: Vec<Input<'a, SourceReader<'a, F>>>,
+    pub(super) parts: SourceParts<'a, F>,
     pub(super) settings: Settings,
 }
 
-impl<F: Files> Filtering<'_, F> {
+impl<F: Files> Filtering<'_, F>
+where
+    F::File: AsFd,
+{
     /// Filters into a writer, and returns the exit status.
     pub(super) fn write_to<W: Write + Drop, E: Write>(self, writer: W, errors: &mut E) -> u8 {
         let Filtering {
             files: _,
-            inputs,
+            parts,
             settings,
         } = self;
         let Ok(buffer) = BufWriter::with_capacity(settings.alloc, BUFFER, writer) else {
             return report_line(errors, OUT_OF_MEMORY, 1);
         };
         let mut output = CoalescingOutput::new(buffer);
-        filter_all(settings, inputs, &mut output, errors).status()
+        filter_all(settings, parts, &mut output, errors).status()
     }
 
     /// Filters into a file, and gives it its name when it is complete. Removes it after an error.
@@ -42,7 +49,7 @@ impl<F: Files> Filtering<'_, F> {
     ) -> u8 {
         let Filtering {
             files,
-            inputs,
+            parts,
             settings,
         } = self;
         let Ok(buffer) = BufWriter::with_capacity(settings.alloc, BUFFER, file) else {
@@ -50,16 +57,12 @@ impl<F: Files> Filtering<'_, F> {
             return report_line(errors, OUT_OF_MEMORY, 1);
         };
         let mut output = CoalescingOutput::new(buffer);
-        let ended = filter_all(settings, inputs, &mut output, errors);
+        let ended = filter_all(settings, parts, &mut output, errors);
         if ended != FilterOutcome::Complete {
             replacement.discard(files);
             return ended.status();
         }
-        let finished = match output.get_ref().sync_all() {
-            Ok(()) => replacement.finish(files),
-            Err(error) => Err(error),
-        };
-        match finished {
+        match replacement.finish(files, output.get_ref()) {
             Ok(()) => 0,
             Err(error) => {
                 replacement.discard(files);

@@ -15,15 +15,14 @@ const TEXT: &[u8] = b"__ZN3fooE x\n_RCs_3foo \xFF _ZN3foo4headE\n_R_ZN3fooE \
     _ZN3fooE.llvm.9D1C9369@@16 _ZN3foo17h05af221e174051e9E";
 
 /// The text without hashes.
-const FILTERED: &[u8] = b"_foo x\nfoo \xFF foo\n_R_ZN3fooE foo@@16 foo";
+const FILTERED: &[u8] = b"foo x\nfoo \xFF foo\n_R_ZN3fooE foo@@16 foo";
 
 /// The capacities, in bytes, of the buffer below an output.
 const CAPACITIES: [usize; 4] = [0, 1, 5, BUFFER];
 
 /// The filtered text that is certain after this many bytes are read: all except the run that may
 /// continue.
-const KNOWN_AT: [(usize, &[u8]); 14] = [
-    (2, b"_"),
+const KNOWN_AT: [(usize, &[u8]); 13] = [
     (10, b"foo "),
     (11, b"x"),
     (12, b"\n"),

@@ -1,14 +1,14 @@
 //! Tests the notes on inputs that are compressed or encoded.
 use super::run_one;
 use super::streams::ChunkReader;
-use crate::filtering::{BUFFER, FilterOutcome, Input, Settings, filter_all};
+use crate::filtering::{BUFFER, FilterOutcome, Input, Part, Settings, filter_all};
 use rustc_demangle::Format;
 use std::alloc::Global;
 use std::process::Abort;
 use std::test::Fail;
 
 /// The first bytes of such inputs, and the notes on them.
-const WITH_MAGIC_NUMBER: [(&[u8], &[u8]); 5] = [
+const WITH_MAGIC_NUMBER: [(&[u8], &[u8]); 7] = [
     (
         b"\x1F\x8B\x08\0 _ZN1aE",
         b"kodliwe: note: log.txt looks compressed (gzip); decompress it first\n",
@@ -22,6 +22,14 @@ const WITH_MAGIC_NUMBER: [(&[u8], &[u8]); 5] = [
         b"kodliwe: note: log.txt looks compressed (xz); decompress it first\n",
     ),
     (
+        b"\x04\x22\x4D\x18\x60 _ZN1aE",
+        b"kodliwe: note: log.txt looks compressed (lz4); decompress it first\n",
+    ),
+    (
+        b"BZh91AY&SY _ZN1aE",
+        b"kodliwe: note: log.txt looks compressed (bzip2); decompress it first\n",
+    ),
+    (
         b"\xFF\xFEa\0 _ZN1aE",
         b"kodliwe: note: log.txt looks encoded (UTF-16); convert it to UTF-8 first\n",
     ),
@@ -32,7 +40,7 @@ const WITH_MAGIC_NUMBER: [(&[u8], &[u8]); 5] = [
 ];
 
 /// The number of bytes of the shortest prefix that is noted.
-const LENGTHS: [usize; 5] = [2, 4, 6, 2, 2];
+const LENGTHS: [usize; 7] = [2, 4, 6, 4, 10, 2, 2];
 
 /// Asserts the notes on the text of a reader. All text that is not a symbol is copied.
 fn assert_note(
@@ -56,7 +64,7 @@ fn a_first_chunk_with_a_mark_is_noted_once(rt: HostRuntime) -> Result<(), Fail> 
     let alloc = rt.alloc();
     for (text, note) in WITH_MAGIC_NUMBER {
         assert_note(&rt, alloc, ChunkReader::new(text, 100), text, note)?;
-        let interrupted = ChunkReader::new(text, 7).interrupted();
+        let interrupted = ChunkReader::new(text, 12).interrupted();
         assert_note(&rt, alloc, interrupted, text, note)?;
     }
     Ok(())
@@ -89,7 +97,8 @@ fn a_mark_after_the_beginning_is_not_noted(rt: HostRuntime) -> Result<(), Fail> 
             assert_note(&rt, alloc, reader, long.as_slice(), b"")?;
         }
     }
-    let others: [&[u8]; 5] = [
+    let others: [&[u8]; 6] = [
+        b"BZh9 1AY&SY",
         b"\x1F\x8C",
         b"\xFE\xFE",
         b"\xFF\xFF",
@@ -109,7 +118,7 @@ fn each_input_is_noted_by_its_name(rt: HostRuntime) -> Result<(), Fail> {
     for name in ["a", "b\n", "c", "a"] {
         let text: &[u8] = if name == "c" { b"c" } else { b"\x1F\x8B" };
         let reader = ChunkReader::new(text, 100);
-        inputs.push(Input { name, reader })?;
+        inputs.push(Part::Text(Input { name, reader }))?;
     }
     let settings = Settings {
         alloc,

@@ -1,11 +1,15 @@
 //! Laws about the lines of a text and their output.
-ghost use Rattle.std.specs.Prelude.{◌≡◌, ◌↔◌, ◌++◌, ℕ, List, Bool, Some, OnOk, IfErr, IsUtf8};
+ghost use Rattle.std.specs.Prelude.{◌≡◌, ◌↔◌, ◌∷◌, ◌++◌, ℕ, List, [], Bool, false, Some, OnOk, IfErr, IsUtf8, flat_map};
 ghost use Rattle.std.specs.List.{concat};
-ghost use Rattle.rustc_demangle.specs.Filtered.{HasNoStart, IsFiltered, filtered, filtered_within};
+ghost use Rattle.rustc_demangle.specs.Filtered.{HasNoStart, IsFiltered, filtered, filtered_within, is_run_byte};
+ghost use Rattle.rustc_demangle.specs.Rewritten.{IsRewritten, before_after, rewritten, rewritten_after, rewritten_in};
+ghost use Rattle.rustc_demangle.specs.ByteStream.{SplitsNoCandidate};
 ghost use Rattle.rustc_demangle.specs.Lines.{lines, line_feeds, OnlyLines};
 ghost use Rattle.rustc_demangle.specs.TextPieces.{filtered_pieces};
 ghost use Rattle.rustc_demangle.specs.LineStream.{output_of, StreamStopped};
 ghost use Rattle.rustc_demangle.specs.Symbols.{handed};
+ghost use Rattle.rustc_demangle.specs.declared.format.Format.{Format};
+ghost use Rattle.rustc_demangle.specs.declared.byte_before.ByteBefore.{ByteBefore};
 
 use crate::stream::{StreamFault, demangle_stream_named};
 use std::alloc::Global;
@@ -37,9 +41,34 @@ pub fn text_is_filtered_by_lines()
     ensures { (hash : Bool) → (text : List ℕ) → filtered hash text ≡ output_of hash (lines text) }
 {}
 
+/// The computed output of any bytes is the output of their division into plain texts and runs. The
+/// bytes before a run determine what its replacement takes the place of. No other output is.
+pub fn rewritten_is_the_only_text()
+    ensures { (hash : Bool) → (text out : List ℕ) →
+        (out ≡ rewritten hash text) ↔ IsRewritten hash text out }
+{}
+
+/// Bytes can be rewritten in two parts, if the first splits no candidate. The second part is
+/// rewritten after what is before it. If that is a byte that is not of a run, such as a line feed,
+/// the second part is a text of its own.
+pub fn rewritten_texts_can_be_divided()
+    ensures after { (format : Format) → (before : ByteBefore) → (prefix rest : List ℕ) →
+        SplitsNoCandidate before prefix rest →
+        rewritten_after format before (prefix ++ rest) ≡ rewritten_after format before prefix
+        ++ rewritten_after format (before_after before prefix) rest }
+    ensures anew { (format : Format) → (prefix rest : List ℕ) → (c : ℕ) → is_run_byte c ≡ false →
+        rewritten_in format (prefix ++ c ∷ rest)
+        ≡ rewritten_in format (prefix ++ c ∷ []) ++ rewritten_in format rest }
+    ensures lines { (hash : Bool) → (text : List ℕ) →
+        rewritten hash text ≡ flat_map (rewritten hash) (lines text) }
+{}
+
 /// A line without `_ZN` and `_R` is not changed.
 pub fn line_without_symbols_passes()
-    ensures { (hash : Bool) → (line : List ℕ) → HasNoStart line → filtered hash line ≡ line }
+    ensures filtered { (hash : Bool) → (line : List ℕ) → HasNoStart line →
+        filtered hash line ≡ line }
+    ensures rewritten { (hash : Bool) → (line : List ℕ) → HasNoStart line →
+        rewritten hash line ≡ line }
 {}
 
 /// If everything succeeds, the output has the same number of line feeds as the input.
@@ -48,6 +77,8 @@ pub fn as_many_lines_are_written()
         line_feeds (concat (handed text hash limit)) ≡ 0 }
     ensures written { (hash : Bool) → (text : List ℕ) →
         line_feeds (output_of hash (lines text)) ≡ line_feeds text }
+    ensures rewritten { (hash : Bool) → (text : List ℕ) →
+        line_feeds (rewritten hash text) ≡ line_feeds text }
 {}
 
 /// Demangles a text in memory. It shows the stream's contract with a reader and a writer whose

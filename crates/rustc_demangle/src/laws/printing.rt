@@ -3,6 +3,7 @@ ghost use Rattle.std.specs.Prelude.{◌≡◌, ◌⊎◌, ℕ, ◌+◌, ◌≤�
 ghost use Rattle.std.specs.List.{concat, list_all};
 ghost use Rattle.demangle_sink.specs.Array.{text_of};
 ghost use Rattle.demangle_sink.specs.Cut.{size};
+ghost use Rattle.demangle_v0_grammar.specs.Reading.{form};
 ghost use Rattle.rustc_demangle.specs.Hashes.{OmitsHash};
 ghost use Rattle.demangle_legacy.specs.Legacy.{IsLegacy};
 ghost use Rattle.rustc_demangle.specs.Stripped.{stripped, is_thin_lto, is_allowed, IsCut};
@@ -56,7 +57,7 @@ pub fn symbols_are_ascii()
 pub fn hash_is_the_last_element()
     ensures { (text : List ℕ) → (elements : List (List ℕ)) → (suffix : List ℕ) → (limit : ℕ) →
         IsLegacy text elements suffix → is_allowed suffix ≡ true →
-        size (legacy_pieces true elements) ≤ limit →
+        size (legacy_pieces (form true false) elements) ≤ limit →
         (handed text false limit ≡ handed text true limit)
         ⊎ OmitsHash text elements suffix limit }
 {}

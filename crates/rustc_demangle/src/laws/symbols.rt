@@ -15,10 +15,10 @@ ghost use Rattle.demangle_v0_grammar.specs.V0.{IsV0};
 pub fn legacy_symbol_prints_its_elements()
     ensures handed { (text : List ℕ) → (elements : List (List ℕ)) → (suffix : List ℕ) →
         (hash : Bool) → (limit : ℕ) → IsLegacy text elements suffix → is_allowed suffix ≡ true →
-        handed text hash limit ≡ cut (legacy_pieces hash elements) limit ++ suffix ∷ [] }
+        handed text hash limit ≡ cut (legacy_pieces (form hash false) elements) limit ++ suffix ∷ [] }
     ensures kept { (text : List ℕ) → (elements : List (List ℕ)) → (suffix : List ℕ) →
         (hash : Bool) → (limit : ℕ) → IsLegacy text elements suffix → is_allowed suffix ≡ true →
-        kept_of text hash limit ≡ kept (legacy_pieces hash elements) limit }
+        kept_of text hash limit ≡ kept (legacy_pieces (form hash false) elements) limit }
 {}
 
 /// A v0 symbol with an allowed suffix prints the pieces of its tree, cut at the limit, and then its
@@ -38,7 +38,7 @@ pub fn each_format_prints_the_same_symbols()
     ensures legacy { (text : List ℕ) → (elements : List (List ℕ)) → (suffix : List ℕ) →
         (format : Format) → IsLegacy text elements suffix → is_allowed suffix ≡ true →
         handed_in text format
-        ≡ cut (legacy_pieces format.include_hash elements) format.limit ++ suffix ∷ [] }
+        ≡ cut (legacy_pieces (form_of format) elements) format.limit ++ suffix ∷ [] }
     ensures v0 { (text inner suffix : List ℕ) → (format : Format) →
         IsV0 text inner suffix → is_allowed suffix ≡ true →
         handed_in text format

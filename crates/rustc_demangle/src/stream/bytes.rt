@@ -1,46 +1,54 @@
 //! Demangles any bytes that come from a reader.
-ghost use Rattle.std.specs.Prelude.{◌≡◌, List, ℕ, [], true, false, Ok, Some, IfSome, OnOk, IfErr};
+ghost use Rattle.std.specs.Prelude.{◌≡◌, [], true, false, Ok, Some, IfSome, OnOk, IfErr};
 ghost use Rattle.std.specs.Io.KnownBytes.{Appends};
-ghost use Rattle.rustc_demangle.specs.Filtered.{filtered, filtered_in, filtered_within};
-ghost use Rattle.rustc_demangle.specs.ByteStream.{IsPartialRun, StepFiltered, StepFinished, StepFailed, BytesStopped};
+ghost use Rattle.rustc_demangle.specs.Rewritten.{rewritten, rewritten_after, rewritten_in, rewritten_within};
+ghost use Rattle.rustc_demangle.specs.Symbols.{unfolded, most_bytes};
+ghost use Rattle.rustc_demangle.specs.ByteStream.{Unwritten, unwritten, from_start, IsPartialCandidate, StepFiltered, StepFinished, StepFailed, BytesStopped};
 
+use crate::byte_before::ByteBefore;
 use crate::format::Format;
 use crate::stream::fault::{StreamFault, read_fault};
 use crate::stream::memo::SymbolMemo;
-use crate::stream::pending_run::{filter_chunk, finish};
+use crate::stream::pending_run::{Pending, filter_chunk, finish};
 use crate::value::MAX_SIZE;
 use std::alloc::{Allocator, Global};
 use std::io;
 use std::io::{BufRead, Write};
 use std::marker::Model;
 
-/// A filter of any bytes. It buffers the unfinished run at the end of the bytes so far.
+/// A filter of any bytes. It buffers the unfinished candidate at the end of the bytes so far.
 #[derive(Drop)]
 pub struct BytesFilter<A: Allocator> {
-    pending: Vec<u8, A>,
+    pending: Pending<A>,
 }
 
 impl<A: Allocator> Model for BytesFilter<A> {
-    ghost Value = { List ℕ };
+    ghost use Rattle.rustc_demangle.specs.ByteStream.{Unwritten, unwritten, IsPartialCandidate};
 
-    ghost view = { λ filter. filter.pending.items };
+    ghost Value = { Unwritten };
 
-    ghost invariant = { λ filter. IsPartialRun filter.pending.items };
+    ghost view = { λ filter. unwritten filter.pending.before filter.pending.bytes.items };
+
+    ghost invariant = { λ filter.
+        IsPartialCandidate (unwritten filter.pending.before filter.pending.bytes.items) };
 }
 
 impl<A: Allocator> BytesFilter<A> {
     /// Returns a filter that has read no bytes.
     pub fn new(alloc: A) -> Self
-        ensures { result ≡ [] }
+        ensures { result ≡ from_start [] }
     {
         BytesFilter {
-            pending: Vec::new(alloc),
+            pending: Pending {
+                before: ByteBefore::Outside,
+                bytes: Vec::new(alloc),
+            },
         }
     }
 
     /// Filters some of the reader's available bytes, and writes what is certain. Returns `false` at
-    /// the end of the input, after the pending run is written. The memo determines how symbols are
-    /// printed, and remembers their texts.
+    /// the end of the input, after the pending bytes are written. The memo determines how symbols
+    /// are printed, and remembers their texts.
     ///
     /// # Errors
     ///
@@ -53,10 +61,10 @@ impl<A: Allocator> BytesFilter<A> {
         output: &mut W,
         memo: &mut SymbolMemo,
     ) -> Result<bool, StreamFault>
-        ensures took { result ≡ Ok true → StepFiltered (filtered_in memo.old)
+        ensures took { result ≡ Ok true → StepFiltered (rewritten_after memo.old)
             self.old self.new (R.remaining input.old) (R.remaining input.new)
             (W.contents output.old) (W.contents output.new) }
-        ensures ended { result ≡ Ok false → StepFinished (filtered_in memo.old)
+        ensures ended { result ≡ Ok false → StepFinished (rewritten_after memo.old)
             self.old self.new (R.remaining input.old) (R.remaining input.new)
             (W.contents output.old) (W.contents output.new) }
         ensures refused { IfErr result (λ fault. StepFailed fault self.old self.new
@@ -85,12 +93,12 @@ fn run_to_end<R: BufRead, W: Write, A: Allocator>(
     output: &mut W,
     memo: &mut SymbolMemo,
 ) -> Result<(), StreamFault>
-    requires { filter.old ≡ [] }
+    requires { filter.old ≡ from_start [] }
     ensures ok { OnOk result (IfSome (R.remaining input.old) (λ text.
         (R.remaining input.new ≡ Some []) × Appends (W.contents output.old) (W.contents output.new)
-        (filtered_in memo.old text))) }
+        (rewritten_in memo.old text))) }
     ensures err { IfErr result (λ fault. IfSome (R.remaining input.old) (λ text.
-        BytesStopped (filtered_in memo.old) fault text
+        BytesStopped (rewritten_after memo.old) fault (from_start text)
         (W.contents output.old) (W.contents output.new))) }
 {
     for _ in 0..=u64::MAX {
@@ -105,12 +113,15 @@ fn run_to_end<R: BufRead, W: Write, A: Allocator>(
 /// at `limit` bytes before its suffix.
 ///
 /// A candidate symbol, or run, starts with `_ZN` or `_R`. It continues up to the next byte that is
-/// not an ASCII letter, a digit, `$`, `.` or `_`. A run that is not a symbol is written unchanged.
+/// not an ASCII letter, a digit, `$`, `.` or `_`. A run that is not a symbol is written unchanged,
+/// and so is one directly after an ASCII letter or digit. A path also replaces a single `_` before
+/// its run, if that `_` is the first byte or follows a byte that no run may have.
 ///
 /// The input is read in the reader's chunks and not by lines. The bytes of a chunk between two runs
 /// are one write. Memory holds the unfinished run at the end of the bytes so far, and a
-/// `SymbolMemo`. So a repeated symbol is one write, and so is a v0 symbol that has at least 20
-/// bytes and prints up to 2,048. Each piece of another symbol is one write.
+/// `SymbolMemo`. So a repeated symbol is one write. So is a v0 symbol or a legacy symbol with a
+/// hash, if it has 20 to 2,048 bytes and prints up to 2,048. Each piece of another symbol is one
+/// write.
 ///
 /// # Errors
 ///
@@ -126,9 +137,9 @@ pub fn demangle_bytes_limited<R: BufRead, W: Write>(
 ) -> Result<(), StreamFault>
     ensures ok { OnOk result (IfSome (R.remaining input.old) (λ text.
         (R.remaining input.new ≡ Some []) × Appends (W.contents output.old) (W.contents output.new)
-        (filtered_within include_hash limit text))) }
+        (rewritten_within include_hash limit text))) }
     ensures err { IfErr result (λ fault. IfSome (R.remaining input.old) (λ text.
-        BytesStopped (filtered_within include_hash limit) fault text
+        BytesStopped (rewritten_after (unfolded include_hash limit)) fault (from_start text)
         (W.contents output.old) (W.contents output.new))) }
 {
     let format = Format::unfolded(include_hash, limit);
@@ -145,9 +156,9 @@ pub fn demangle_bytes_formatted<R: BufRead, W: Write>(
 ) -> Result<(), StreamFault>
     ensures ok { OnOk result (IfSome (R.remaining input.old) (λ text.
         (R.remaining input.new ≡ Some []) × Appends (W.contents output.old) (W.contents output.new)
-        (filtered_in format text))) }
+        (rewritten_in format text))) }
     ensures err { IfErr result (λ fault. IfSome (R.remaining input.old) (λ text.
-        BytesStopped (filtered_in format) fault text
+        BytesStopped (rewritten_after format) fault (from_start text)
         (W.contents output.old) (W.contents output.new))) }
 {
     let mut filter = BytesFilter::new(alloc);
@@ -165,9 +176,9 @@ pub fn demangle_bytes<R: BufRead, W: Write>(
 ) -> Result<(), StreamFault>
     ensures ok { OnOk result (IfSome (R.remaining input.old) (λ text.
         (R.remaining input.new ≡ Some []) × Appends (W.contents output.old) (W.contents output.new)
-        (filtered include_hash text))) }
+        (rewritten include_hash text))) }
     ensures err { IfErr result (λ fault. IfSome (R.remaining input.old) (λ text.
-        BytesStopped (filtered include_hash) fault text
+        BytesStopped (rewritten_after (unfolded include_hash most_bytes)) fault (from_start text)
         (W.contents output.old) (W.contents output.new))) }
 {
     demangle_bytes_limited(alloc, input, output, include_hash, MAX_SIZE)

@@ -1,5 +1,5 @@
 //! Writes lines and runs with their symbols demangled.
-ghost use Rattle.std.specs.Prelude.{◌≡◌, true, OnOk};
+ghost use Rattle.std.specs.Prelude.{◌≡◌, ◌+◌, ◌*◌, ◌≤◌, length, true, OnOk};
 ghost use Rattle.std.specs.Io.KnownBytes.{Appends};
 ghost use Rattle.std.specs.List.{concat, list_all};
 ghost use Rattle.rustc_demangle.specs.Filtered.{filtered, is_run_byte, replacement_in};
@@ -9,6 +9,7 @@ use crate::format::Format;
 use crate::text::demangle_text;
 use crate::value::Demangle;
 use demangle_sink::WriteSink;
+use demangle_symbol::cursor::Looks;
 use std::io;
 use std::io::Write;
 
@@ -40,7 +41,24 @@ pub(super) fn write_run<W: Write>(run: &str, output: &mut W, format: Format) -> 
     ensures { OnOk result (Appends (W.contents output.old) (W.contents output.new)
         (replacement_in format run.now)) }
 {
-    let symbol = Demangle::read_run(run);
+    write_run_counted(run, output, format, &mut Looks::new())
+}
+
+/// Writes the replacement of a run as `write_run` does, and counts the looks that decide whether it
+/// is a symbol.
+pub(super) fn write_run_counted<W: Write>(
+    run: &str,
+    output: &mut W,
+    format: Format,
+    looks: &mut Looks,
+) -> io::Result<()>
+    requires { list_all is_run_byte run.now ≡ true }
+    ensures text { OnOk result (Appends (W.contents output.old) (W.contents output.new)
+        (replacement_in format run.now)) }
+    ensures grows { looks.old ≤ looks.new }
+    ensures most { looks.new ≤ looks.old + 61 * (length run.now + 1) }
+{
+    let symbol = Demangle::read_run_counted(run, looks);
     if symbol.has_style() {
         write_symbol(&symbol, output, format)
     } else {

@@ -1,22 +1,23 @@
 //! Remembers the symbols that a filter printed.
-ghost use Rattle.std.specs.Prelude.{◌≡◌, ◌<◌, [], true, length, IsTrue, OnOk};
+ghost use Rattle.std.specs.Prelude.{◌≡◌, ◌+◌, ◌*◌, ◌<◌, ◌≤◌, [], true, length, IsTrue, OnOk};
 ghost use Rattle.std.specs.List.{concat, list_all};
 ghost use Rattle.std.specs.Io.KnownBytes.{Appends};
 ghost use Rattle.rustc_demangle.specs.Filtered.{is_run_byte, replacement_in};
 ghost use Rattle.rustc_demangle.specs.Symbols.{handed_in, unfolded};
-ghost use Rattle.text_memo.specs.Memo.{Remembers};
+ghost use Rattle.text_memo.specs.Memo.{Remembers, IsSmall};
 
 use crate::format::Format;
 use crate::stream::buffer_sink::BufferSink;
-use crate::stream::line_writer::write_run;
+use crate::stream::line_writer::{write_run, write_run_counted};
 use crate::value::Demangle;
-use crate::value::printing::print_v0_run;
+use crate::value::printing::{print_legacy_run, print_v0_run};
+use demangle_symbol::cursor::Looks;
 use piece_buffer::PieceBuffer;
 use std::alloc::Global;
 use std::io;
 use std::io::Write;
 use std::marker::Model;
-use text_memo::{MAX_KEY, Noted, TextMemo, hash_of};
+use text_memo::{Comparisons, MAX_KEY, Noted, TextMemo, hash_of};
 
 /// A lookup that finds nothing adds one to the count, and one that finds a text subtracts this. So
 /// the count increases if fewer than one lookup in twenty finds a text.
@@ -72,10 +73,10 @@ struct Store {
 
 /// A memo of printed symbols, with which a filter does not parse a repeated symbol again.
 ///
-/// It belongs to one format, in which all its texts were printed. It uses at most 4.5 MB of memory:
-/// 32 KB if no symbol repeats, and none if there are no symbols. If memory can't be allocated,
-/// symbols are parsed as without a memo. The memo turns itself off for a while if few symbols
-/// repeat.
+/// It belongs to one format, in which all its texts were printed. It allocates at most 4.5 MB of
+/// memory: 32 KB if no symbol repeats, and none if there are no symbols. A lookup compares at most
+/// two symbols. If memory can't be allocated, symbols are parsed as without a memo. The memo turns
+/// itself off for a while if few symbols repeat.
 #[derive(Drop)]
 pub struct SymbolMemo {
     format: Format,
@@ -86,13 +87,14 @@ pub struct SymbolMemo {
 impl Model for SymbolMemo {
     ghost use Rattle.rustc_demangle.specs.declared.format.Format.{Format};
     ghost use Rattle.rustc_demangle.specs.Filtered.{replacement_in};
-    ghost use Rattle.text_memo.specs.Memo.{Remembers};
+    ghost use Rattle.text_memo.specs.Memo.{Remembers, IsSmall};
 
     ghost Value = { Format };
 
     ghost view = { λ memo. memo.format };
 
-    ghost invariant = { λ memo. Remembers (replacement_in memo.format) memo.store.texts };
+    ghost invariant = { λ memo. Remembers (replacement_in memo.format) memo.store.texts
+        × IsSmall memo.store.texts };
 }
 
 /// Prints a symbol into an empty buffer, or returns `false` if the buffer has no room for it.
@@ -104,21 +106,30 @@ fn print_to_buffer(symbol: &Demangle<'_>, held: &mut PieceBuffer, format: Format
     symbol.write_formatted(&mut sink, format).is_ok()
 }
 
-/// Prints a v0 symbol into the buffer before it is known whether the run is one. Returns `false` if
-/// that is still unknown, or if the buffer has no room for the text. Then the buffer may have a
-/// part of it.
+/// Returns whether a run, or a run with the `_` before it, starts as a v0 symbol.
 #[inline(always)]
-fn print_first(run: &str, held: &mut PieceBuffer, format: Format) -> bool
+fn starts_as_v0(run: &[u8]) -> bool {
+    (run.len() > 2) && ((run[1] == b'R') | ((run[1] == b'_') & (run[2] == b'R')))
+}
+
+/// Prints a symbol into the buffer before it is known whether the run is one, and counts its looks.
+/// Returns `false` if that is still unknown, or if the buffer has no room for the text. Then the
+/// buffer may have a part of it.
+#[inline(always)]
+fn print_first(run: &str, held: &mut PieceBuffer, format: Format, looks: &mut Looks) -> bool
     requires run { list_all is_run_byte run.now ≡ true }
     requires some { 1 < length run.now }
-    ensures { IsTrue result → held.new ≡ replacement_in format run.now }
+    ensures printed { IsTrue result → held.new ≡ replacement_in format run.now }
+    ensures grows { looks.old ≤ looks.new }
+    ensures most { looks.new ≤ looks.old + 139 * (length run.now + 1) }
 {
-    if run.as_bytes()[1] != b'R' {
-        return false;
-    }
     held.clear();
     let mut sink = BufferSink::new(held);
-    print_v0_run(run, &mut sink, format)
+    if starts_as_v0(run.as_bytes()) {
+        print_v0_run(run, &mut sink, format, format.limit, looks)
+    } else {
+        print_legacy_run(run, &mut sink, format, looks)
+    }
 }
 
 /// How the text of a run was found.
@@ -143,14 +154,15 @@ fn is_looked_up(run: &[u8]) -> bool
         return false;
     }
     let end = run.len();
-    (run[1] == b'R')
+    starts_as_v0(run)
         | ((run[end - 1] == b'E') & (run[end - 18] == b'h') & (run[end - 19] == b'7'))
         | run[end - 1].is_ascii_digit()
 }
 
-/// Prints a run, and remembers its text, or that it is too long.
+/// Prints a run, and remembers its text, or that it is too long. Counts the looks that decide
+/// whether it is a symbol: those at a run that is no symbol are bounded by its length.
 #[inline(never)]
-fn print_new(run: &str, hash: u64, format: Format, store: &mut Store) -> Printed
+fn print_new(run: &str, hash: u64, format: Format, store: &mut Store, looks: &mut Looks) -> Printed
     requires run { list_all is_run_byte run.now ≡ true }
     requires some { 1 < length run.now }
     requires remembers { Remembers (replacement_in format) store.old.texts }
@@ -159,14 +171,17 @@ fn print_new(run: &str, hash: u64, format: Format, store: &mut Store) -> Printed
     ensures no_symbol { result ≡ Printed.NoSymbol →
         run.now ≡ replacement_in format run.now }
     ensures remembers { Remembers (replacement_in format) store.new.texts }
+    ensures small { IsSmall store.old.texts → IsSmall store.new.texts }
+    ensures grows { looks.old ≤ looks.new }
+    ensures most { looks.new ≤ looks.old + (139 + 61) * (length run.now + 1) }
 {
-    if print_first(run, &mut store.printed, format) {
+    if print_first(run, &mut store.printed, format, looks) {
         store
             .texts
             .insert(run.as_bytes(), store.printed.as_slice(), hash);
         return Printed::Symbol;
     }
-    let symbol = Demangle::read_run(run);
+    let symbol = Demangle::read_run_counted(run, looks);
     if !symbol.has_style() {
         let kept = run.as_bytes();
         store.texts.insert(kept, kept, hash);
@@ -210,19 +225,34 @@ impl SymbolMemo {
         }
     }
 
-    /// Writes the text of a run that is not remembered. Fails if the writer fails.
+    /// Returns the number of bytes of memory that the memo has allocated, which is at most 4.5 MB.
+    pub fn allocated(&self) -> usize
+        ensures { result ≤ 4_500_000 }
+    {
+        self.store.texts.allocated()
+    }
+
+    /// Writes the text of a run that is not remembered. Counts the looks that decide whether it is
+    /// a symbol: their bound is linear in its length. Fails if the writer fails.
     #[inline(always)]
-    fn write_once<W: Write>(&mut self, run: &str, output: &mut W) -> io::Result<()>
+    fn write_once<W: Write>(
+        &mut self,
+        run: &str,
+        output: &mut W,
+        looks: &mut Looks,
+    ) -> io::Result<()>
         requires all { list_all is_run_byte run.now ≡ true }
         requires some { 1 < length run.now }
         ensures text { OnOk result (Appends (W.contents output.old) (W.contents output.new)
             (replacement_in self.old run.now)) }
         ensures same { self.new ≡ self.old }
+        ensures grows { looks.old ≤ looks.new }
+        ensures most { looks.new ≤ looks.old + (139 + 61) * (length run.now + 1) }
     {
-        if print_first(run, &mut self.store.printed, self.format) {
+        if print_first(run, &mut self.store.printed, self.format, looks) {
             return output.write_all(self.store.printed.as_slice());
         }
-        write_run(run, output, self.format)
+        write_run_counted(run, output, self.format, looks)
     }
 
     /// Writes the text of a run that is not in the memo. The text is remembered if the run came
@@ -237,10 +267,11 @@ impl SymbolMemo {
     {
         match self.store.texts.note(hash) {
             Noted::Again => {}
-            Noted::New => return self.write_once(run, output),
+            Noted::New => return self.write_once(run, output, &mut Looks::new()),
             Noted::TooLong => return write_run(run, output, self.format),
         }
-        match print_new(run, hash, self.format, &mut self.store) {
+        let mut looks = Looks::new();
+        match print_new(run, hash, self.format, &mut self.store, &mut looks) {
             Printed::Symbol => output.write_all(self.store.printed.as_slice()),
             Printed::NoSymbol => output.write_all(run.as_bytes()),
             Printed::TooLong => write_run(run, output, self.format),
@@ -260,10 +291,11 @@ impl SymbolMemo {
             return write_run(run, output, self.format);
         }
         if !self.probe.is_on() {
-            return self.write_once(run, output);
+            return self.write_once(run, output, &mut Looks::new());
         }
         let hash = hash_of(run.as_bytes());
-        if let Some(text) = self.store.texts.get(run.as_bytes(), hash) {
+        let mut comparisons = Comparisons::new();
+        if let Some(text) = self.store.texts.get(run.as_bytes(), hash, &mut comparisons) {
             self.probe.hit();
             return output.write_all(text);
         }

@@ -1,5 +1,5 @@
 //! Prints symbols into sinks, cut at a limit.
-ghost use Rattle.std.specs.Prelude.{◌≡◌, ◌+◌, ◌≤◌, true, false, IsTrue};
+ghost use Rattle.std.specs.Prelude.{◌≡◌, ◌+◌, ◌*◌, ◌≤◌, length, true, false, IsTrue};
 ghost use Rattle.std.specs.List.{list_all};
 ghost use Rattle.demangle_sink.specs.Cut.{cut};
 ghost use Rattle.demangle_sink.specs.PutsPieces.{PutsPieces};
@@ -133,8 +133,9 @@ impl Demangle<'_> {
     ///
     /// So all instances of a generic function have one name: `foo::bar::<_>` for `foo::bar::<u8>`.
     /// A list is read and not printed. No reference in it is followed, and no lifetime in it is
-    /// checked. All else prints as by `write_limited_counted`. A legacy symbol prints completely,
-    /// because its arguments are parts of names.
+    /// checked. If the list itself prints without an error, all else prints as by
+    /// `write_limited_counted`. A legacy symbol prints completely, because its arguments are parts
+    /// of names.
     ///
     /// # Errors
     ///
@@ -202,30 +203,64 @@ impl Demangle<'_> {
     }
 }
 
-/// Prints a run that is a v0 symbol, in one pass over its first path. A run is ASCII.
+/// Prints a run that is a v0 symbol, in one pass over its first path, and counts its looks. A run
+/// is ASCII.
 ///
-/// Returns `false` if the run is not a v0 symbol, as `demangle_v0::demangle_printed` does. Then an
-/// unknown part of the symbol may be in the sink, and `Demangle::read_run` says what the run is.
+/// Returns `false` if the run is not a v0 symbol, as `demangle_v0::demangle_printed` does, or if the
+/// path has more than `limit` bytes. Then an unknown part of the symbol may be in the sink, and
+/// `Demangle::read_run` says what the run is.
 #[inline(never)]
-pub(crate) fn print_v0_run<S: TextSink>(run: &str, out: &mut S, format: Format) -> bool
+pub(crate) fn print_v0_run<S: TextSink>(
+    run: &str,
+    out: &mut S,
+    format: Format,
+    limit: usize,
+    looks: &mut Looks,
+) -> bool
     requires run { list_all is_run_byte run.now ≡ true }
+    requires lower { limit ≤ format.limit }
     requires not_failed { S.failed out.old ≡ false }
-    ensures { IsTrue result →
+    ensures took { IsTrue result →
         S.took out.old (replacement_in format run.now) out.new }
+    ensures grows { looks.old ≤ looks.new }
+    ensures most { looks.new ≤ looks.old + 139 * (length run.now + 1) }
 {
     let text = without_thin_lto(run);
-    let mut limited = SizeLimitedFmtAdapter::new(out, format.limit);
-    let read = demangle_v0::demangle_printed(
-        text,
-        &mut limited,
-        format.include_hash,
-        format.fold_arguments,
-    );
+    let mut limited = SizeLimitedFmtAdapter::new(out, limit);
+    let read = demangle_v0::demangle_printed(text, &mut limited, format.form(), looks);
     let Some((_, suffix)) = read else {
         return false;
     };
-    let mut looks = Looks::new();
-    is_allowed(suffix, &mut looks) && put_piece(suffix, out).is_ok()
+    is_allowed(suffix, looks) && put_piece(suffix, out).is_ok()
+}
+
+/// Prints a run that is a legacy symbol, in one pass, and counts its looks. A run is ASCII.
+///
+/// Returns `false` if the run is not a legacy symbol, as `demangle_legacy::demangle_printed` does.
+/// Then an unknown part of the symbol may be in the sink, and `Demangle::read_run` says what the
+/// run is.
+#[inline(never)]
+pub(crate) fn print_legacy_run<S: TextSink>(
+    run: &str,
+    out: &mut S,
+    format: Format,
+    looks: &mut Looks,
+) -> bool
+    requires run { list_all is_run_byte run.now ≡ true }
+    requires not_failed { S.failed out.old ≡ false }
+    ensures took { IsTrue result →
+        S.took out.old (replacement_in format run.now) out.new }
+    ensures grows { looks.old ≤ looks.new }
+    ensures most { looks.new ≤ looks.old + 18 * (length run.now + 1) }
+{
+    let text = without_thin_lto(run);
+    let mut limited = SizeLimitedFmtAdapter::new(out, format.limit);
+    let read = demangle_legacy::demangle_printed(text, &mut limited, format.form(), looks);
+    let Some((_, suffix)) = read else {
+        return false;
+    };
+    let allowed = is_allowed(suffix, looks);
+    allowed && put_piece(suffix, out).is_ok()
 }
 
 /// Prints a text into a sink; its path has `path_len` bytes. Fails if the sink fails.

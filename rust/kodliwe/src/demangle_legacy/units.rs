@@ -1,7 +1,7 @@
 // Made from crates/demangle_legacy/src/units.rt by packaging/crate/erase.py: edit that file instead.
 //! Reads the units of a legacy element.
 
-use crate::demangle_symbol::cursor::{Looks, Part, Symbol};
+use crate::demangle_symbol::cursor::{Part, Symbol};
 
 /// The text that a unit prints.
 #[derive(Clone, Copy)]
@@ -14,13 +14,11 @@ pub(super) enum Unit {
 }
 
 /// Returns the place of the first `$` or `.` of a part.
-fn special_in(symbol: &Symbol<'_>, part: Part, looks: &mut Looks) -> Option<usize> {
+fn special_in(symbol: &Symbol<'_>, part: Part) -> Option<usize> {
     // The part is within the symbol. The compiler knows it by the minimum, and tests one bound.
     let end = part.to.min(symbol.len());
     for at in part.from..end {
-        let Some(byte) = symbol.byte(at, looks) else {
-            return None;
-        };
+        let byte = symbol.byte(at)?;
         // Letters, digits and `_` are greater than these two.
         if byte <= b'.' && (byte == b'$' || byte == b'.') {
             return Some(at);
@@ -49,10 +47,10 @@ fn escaped_code(code: u32) -> Option<char> {
 
 /// Returns the character of an escape by digits, and the place of the `$` that ends it. Returns
 /// `None` if there is no such escape. The part starts with the `u` before the digits.
-fn digits_escape(symbol: &Symbol<'_>, part: Part, looks: &mut Looks) -> Option<(char, usize)> {
+fn digits_escape(symbol: &Symbol<'_>, part: Part) -> Option<(char, usize)> {
     let mut code: u32 = 0;
     for at in part.from + 1..part.to {
-        let byte = symbol.byte(at, looks)?;
+        let byte = symbol.byte(at)?;
         let Some(digit) = lower_hex_of(byte) else {
             if byte != b'$' {
                 return None;
@@ -88,20 +86,20 @@ fn letters(first: u8, second: u8) -> Option<char> {
 /// Returns the character of the escape at the start of a part, and the place of the `$` that ends
 /// it. Returns `None` if there is no escape. The part is after a `$`.
 // An escape is read in one pass, up to the first byte that no escape has there.
-#[inline(always)]
-fn escape_at(symbol: &Symbol<'_>, part: Part, looks: &mut Looks) -> Option<(char, usize)> {
+#[cfg_attr(not(debug_assertions), inline(always))]
+fn escape_at(symbol: &Symbol<'_>, part: Part) -> Option<(char, usize)> {
     let from = part.from;
     if part.to <= from {
         return None;
     }
-    let first = symbol.byte(from, looks)?;
+    let first = symbol.byte(from)?;
     if first == b'u' {
-        return digits_escape(symbol, part, looks);
+        return digits_escape(symbol, part);
     }
     if part.to - from < 2 {
         return None;
     }
-    let second = symbol.byte(from + 1, looks)?;
+    let second = symbol.byte(from + 1)?;
     if second == b'$' {
         if first == b'C' {
             return Some((',', from + 1));
@@ -111,7 +109,7 @@ fn escape_at(symbol: &Symbol<'_>, part: Part, looks: &mut Looks) -> Option<(char
     if part.to - from < 3 {
         return None;
     }
-    if !symbol.is_at(b'$', from + 2, looks) {
+    if !symbol.is_at(b'$', from + 2) {
         return None;
     }
     let c = letters(first, second)?;
@@ -121,27 +119,22 @@ fn escape_at(symbol: &Symbol<'_>, part: Part, looks: &mut Looks) -> Option<(char
 /// Returns the unit at a place of an element that ends at `to`, and the place after the unit.
 /// Returns `None` if no unit starts there.
 // It is inlined since a call would write each unit to memory, and read it from there again.
-#[inline(always)]
-pub(super) fn unit_at(
-    symbol: &Symbol<'_>,
-    at: usize,
-    to: usize,
-    looks: &mut Looks,
-) -> Option<(Unit, usize)> {
+#[cfg_attr(not(debug_assertions), inline(always))]
+pub(super) fn unit_at(symbol: &Symbol<'_>, at: usize, to: usize) -> Option<(Unit, usize)> {
     let next = at + 1;
     let rest = Part { from: next, to };
-    match symbol.byte(at, looks)? {
+    match symbol.byte(at)? {
         b'.' => {
-            if next < to && symbol.is_at(b'.', next, looks) {
+            if next < to && symbol.is_at(b'.', next) {
                 Some((Unit::Separator, next + 1))
             } else {
                 Some((Unit::Char('.'), next))
             }
         }
         b'$' => {
-            let (c, end) = escape_at(symbol, rest, looks)?;
+            let (c, end) = escape_at(symbol, rest)?;
             Some((Unit::Char(c), end + 1))
         }
-        _ => Some((Unit::Run, special_in(symbol, rest, looks)?)),
+        _ => Some((Unit::Run, special_in(symbol, rest)?)),
     }
 }

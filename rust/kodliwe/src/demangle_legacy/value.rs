@@ -4,9 +4,11 @@
 use crate::demangle_legacy::elements::element_at;
 use crate::demangle_legacy::printing::{is_omitted, put_element};
 use crate::demangle_sink::{SinkRefused, SizeLimitedFmtAdapter, TextSink};
-use crate::demangle_symbol::cursor::{Looks, Symbol};
+use crate::demangle_symbol::cursor::Symbol;
+use crate::demangle_symbol::form::Form;
 
 /// A legacy symbol that was parsed.
+#[derive(Clone, Copy)]
 pub struct Demangle<'s> {
     inner: Symbol<'s>,
 }
@@ -16,7 +18,7 @@ impl<'s> Demangle<'s> {
         Demangle { inner }
     }
 
-    /// Puts the elements with `::` between them. The hash is omitted unless `include_hash` is set.
+    /// Puts the elements with `::` between them. The hash is omitted unless `form` includes it.
     ///
     /// # Errors
     ///
@@ -24,20 +26,38 @@ impl<'s> Demangle<'s> {
     pub fn write_to<S: TextSink>(
         &self,
         out: &mut SizeLimitedFmtAdapter<'_, S>,
-        include_hash: bool,
-        looks: &mut Looks,
+        form: Form,
     ) -> Result<(), SinkRefused> {
-        let mut at = 0;
-        while let Some(element) = element_at(&self.inner, at, looks) {
-            if is_omitted(&self.inner, element, include_hash, looks) {
-                return Ok(());
-            }
-            if at > 0 {
-                out.put("::")?;
-            }
-            put_element(&self.inner, element, out, looks)?;
-            at = element.to;
-        }
+        print_elements(&self.inner, out, form)?;
         Ok(())
+    }
+}
+
+/// Puts the elements of a text with `::` between them, before it is known whether an `E` follows
+/// the last one. Returns the place after the `E`, or `None` if there is no `E`: then the text is
+/// not a legacy symbol. The hash is omitted unless `form` includes it.
+///
+/// Fails if the sink or the limit rejects a piece. No later piece is sent.
+pub(super) fn print_elements<S: TextSink>(
+    symbol: &Symbol<'_>,
+    out: &mut SizeLimitedFmtAdapter<'_, S>,
+    form: Form,
+) -> Result<Option<usize>, SinkRefused> {
+    let mut at = 0;
+    while let Some(element) = element_at(symbol, at) {
+        if is_omitted(symbol, element, form) {
+            // The hash is followed by the `E`.
+            return Ok(Some(element.to + 1));
+        }
+        if at > 0 {
+            out.put("::")?;
+        }
+        put_element(symbol, element, out)?;
+        at = element.to;
+    }
+    if symbol.is_at(b'E', at) {
+        Ok(Some(at + 1))
+    } else {
+        Ok(None)
     }
 }

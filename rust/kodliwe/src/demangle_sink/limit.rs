@@ -33,7 +33,7 @@ impl<'s, S: TextSink> SizeLimitedFmtAdapter<'s, S> {
     ///
     /// Returns `SinkRefused` if the piece exceeds the limit, or if the sink rejects it. A piece
     /// that exceeds the limit is not passed.
-    #[inline(always)]
+    #[cfg_attr(not(debug_assertions), inline(always))]
     pub fn put(&mut self, s: &str) -> Result<(), SinkRefused> {
         if s.len() > self.remaining {
             self.is_limit_reached = true;

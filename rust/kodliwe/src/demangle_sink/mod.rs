@@ -7,8 +7,6 @@ mod fmt_sink;
 mod limit;
 mod pieces;
 mod slice_sink;
-#[cfg(test)]
-mod tests;
 #[cfg(feature = "std")]
 mod write_sink;
 
@@ -27,9 +25,7 @@ pub struct SinkRefused;
 
 /// Takes pieces of text until it rejects one.
 ///
-/// A sink has a `room`. A piece within the room is always taken, and the room falls by the number
-/// of its bytes. An empty piece is always taken. If `keeps` is true, a rejected piece leaves the
-/// sink's text and room unchanged.
+/// An empty piece is always taken.
 pub trait TextSink {
     /// Takes a piece.
     ///

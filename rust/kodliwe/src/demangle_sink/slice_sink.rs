@@ -49,7 +49,7 @@ impl<'b> SliceSink<'b> {
     ///
     /// Returns `SinkRefused` if the count would exceed `usize::MAX`. The sink has failed from then
     /// on, and the slice is unchanged.
-    #[inline(always)]
+    #[cfg_attr(not(debug_assertions), inline(always))]
     pub fn put_bytes(&mut self, bytes: &[u8]) -> Result<(), SinkRefused> {
         if bytes.len() > usize::MAX - self.len {
             self.failed = true;
@@ -71,7 +71,7 @@ fn write_from(out: &mut [u8], before: usize, bytes: &[u8]) {
 }
 
 /// Writes bytes to the slice from a place, as far as it reaches.
-#[inline(always)]
+#[cfg_attr(not(debug_assertions), inline(always))]
 fn write_at(out: &mut [u8], place: usize, bytes: &[u8]) {
     if place < out.len() {
         let kept = bytes.len().min(out.len() - place);
@@ -81,7 +81,7 @@ fn write_at(out: &mut [u8], place: usize, bytes: &[u8]) {
 
 /// Copies a piece to memory of its size.
 // Many pieces, such as `::`, have one or two bytes. They need no call of the C library.
-#[inline(always)]
+#[cfg_attr(not(debug_assertions), inline(always))]
 fn copy_piece(piece: &[u8], room: &mut [u8]) {
     match piece {
         [byte] => room[0] = *byte,
@@ -94,7 +94,7 @@ fn copy_piece(piece: &[u8], room: &mut [u8]) {
 }
 
 impl<'b> TextSink for SliceSink<'b> {
-    #[inline(always)]
+    #[cfg_attr(not(debug_assertions), inline(always))]
     fn put(&mut self, s: &str) -> Result<(), SinkRefused> {
         self.put_bytes(s.as_bytes())
     }

@@ -20,6 +20,7 @@ impl<'w, W: Write> WriteSink<'w, W> {
     }
 
     /// Returns the writer's error. It is `Some` exactly if the sink has failed.
+    #[cfg(feature = "stream")]
     pub fn into_fault(self) -> Option<io::Error> {
         let WriteSink { out: _, fault } = self;
         fault
@@ -27,7 +28,7 @@ impl<'w, W: Write> WriteSink<'w, W> {
 }
 
 impl<'w, W: Write> TextSink for WriteSink<'w, W> {
-    #[inline(always)]
+    #[cfg_attr(not(debug_assertions), inline(always))]
     fn put(&mut self, s: &str) -> Result<(), SinkRefused> {
         if s.is_empty() {
             return Ok(());

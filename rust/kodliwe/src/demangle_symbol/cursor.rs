@@ -3,18 +3,18 @@
 
 use crate::demangle_sink::{SinkRefused, SizeLimitedFmtAdapter, TextSink};
 
+use core::str;
+
 mod hex;
 mod ident;
-mod looks;
 mod primitives;
-#[cfg(test)]
-mod tests;
+mod window;
 
-pub use hex::MAX_NIBBLES;
 pub(crate) use hex::nibble_of;
 pub use ident::Ident;
-pub use looks::Looks;
+
 pub use primitives::MAX_DEPTH;
+pub use window::WINDOW;
 
 /// The reason for which a symbol could not be parsed. The variants have the names of the Rust
 /// crate.
@@ -32,27 +32,24 @@ pub struct Part {
 }
 
 /// The bytes of a symbol after the prefix of its mangling scheme.
+#[derive(Clone, Copy)]
 pub struct Symbol<'s> {
     inner: &'s str,
 }
 
-/// The text of a part of a symbol. It can only be measured or put into a sink.
+/// The text of a part of a symbol. It can only be put into a sink.
+#[derive(Clone, Copy)]
 pub struct Span<'s> {
     text: &'s str,
 }
 
 impl<'s> Span<'s> {
-    /// Returns the number of bytes.
-    pub fn len(&self) -> usize {
-        self.text.len()
-    }
-
     /// Puts the text into a sink as one piece. It makes no look.
     ///
     /// # Errors
     ///
     /// Returns `SinkRefused` if the sink or the size limit rejects the piece.
-    #[inline(always)]
+    #[cfg_attr(not(debug_assertions), inline(always))]
     pub fn write_to<S: TextSink>(
         &self,
         out: &mut SizeLimitedFmtAdapter<'_, S>,
@@ -73,17 +70,15 @@ impl<'s> Symbol<'s> {
     }
 
     /// Returns the byte at a place, or `None` after the end. It makes one look.
-    pub fn byte(&self, place: usize, looks: &mut Looks) -> Option<u8> {
-        looks.tick();
-        let _count = self.inner.len();
+    pub fn byte(&self, place: usize) -> Option<u8> {
         self.inner.as_bytes().get(place).copied()
     }
 
     /// Returns `true` if all bytes are ASCII. It makes at most one look for each byte.
-    pub fn is_ascii(&self, looks: &mut Looks) -> bool {
+    pub fn is_ascii(&self) -> bool {
         let mut all = true;
         for at in 0..self.len() {
-            let Some(byte) = self.byte(at, looks) else {
+            let Some(byte) = self.byte(at) else {
                 return false;
             };
             all &= byte < 128;
@@ -91,16 +86,18 @@ impl<'s> Symbol<'s> {
         all
     }
 
-    /// Returns the text of a part, to be measured or put into a sink. It makes no look.
+    /// Returns the text of a part, to be put into a sink. It makes no look.
+    #[cfg_attr(not(debug_assertions), inline(always))]
     pub fn span(&self, part: Part) -> Span<'s> {
-        Span {
-            text: &self.inner[part.from..part.to],
-        }
+        let bytes = &self.inner.as_bytes()[part.from..part.to];
+        // SAFETY: the symbol is ASCII, and so is each part of it.
+        let text = unsafe { str::from_utf8_unchecked(bytes) };
+        Span { text }
     }
 
     /// Returns `true` if the byte at a place is `byte`. It makes one look.
-    pub fn is_at(&self, byte: u8, place: usize, looks: &mut Looks) -> bool {
-        match self.byte(place, looks) {
+    pub fn is_at(&self, byte: u8, place: usize) -> bool {
+        match self.byte(place) {
             Some(b) => b == byte,
             None => false,
         }
@@ -111,23 +108,35 @@ impl<'s> Symbol<'s> {
     /// # Errors
     ///
     /// Returns `Invalid` if there is no digit at the place, or if a `usize` cannot hold the number.
-    pub fn decimal(&self, place: usize, looks: &mut Looks) -> Result<(usize, usize), ParseError> {
-        self.decimal_from(0, place, place, looks)
+    #[cfg_attr(not(debug_assertions), inline(always))]
+    pub fn decimal(&self, place: usize) -> Result<(usize, usize), ParseError> {
+        let Some(first) = self.digit(place) else {
+            return Err(ParseError::Invalid);
+        };
+        // Most lengths are below 100, so two digits are read without a loop.
+        let one = usize::from(first);
+        let Some(second) = self.digit(place + 1) else {
+            return Ok((one, place + 1));
+        };
+        let two = one * 10 + usize::from(second);
+        let Some(third) = self.digit(place + 2) else {
+            return Ok((two, place + 2));
+        };
+        self.decimal_from(two * 10 + usize::from(third), place, place + 3)
     }
 
     /// Reads the remaining digits of a decimal number and returns it with the place after them. The
     /// number starts at `start`, and its digits before `from` have the value `number`.
-    #[inline(always)]
+    #[cfg_attr(not(debug_assertions), inline(always))]
     fn decimal_from(
         &self,
         number: usize,
         start: usize,
         from: usize,
-        looks: &mut Looks,
     ) -> Result<(usize, usize), ParseError> {
         let mut number = number;
         for at in from..self.len() {
-            let Some(digit) = self.digit(at, looks) else {
+            let Some(digit) = self.digit(at) else {
                 if at == start {
                     return Err(ParseError::Invalid);
                 }
@@ -149,9 +158,9 @@ impl<'s> Symbol<'s> {
 
     /// Returns the value of the decimal digit at a place, or `None` if another byte or the end is
     /// there.
-    #[inline(always)]
-    fn digit(&self, place: usize, looks: &mut Looks) -> Option<u8> {
-        match self.byte(place, looks) {
+    #[cfg_attr(not(debug_assertions), inline(always))]
+    fn digit(&self, place: usize) -> Option<u8> {
+        match self.byte(place) {
             Some(byte @ b'0'..=b'9') => Some(byte - b'0'),
             _ => None,
         }
@@ -164,7 +173,7 @@ pub(crate) fn append_digit(number: u64, base: u64, digit: u8) -> Option<u64> {
 }
 
 /// Returns the number with this decimal digit appended, or `None` if a `usize` cannot hold it.
-#[inline(always)]
+#[cfg_attr(not(debug_assertions), inline(always))]
 fn append_decimal(number: usize, digit: u8) -> Option<usize> {
     number.checked_mul(10)?.checked_add(usize::from(digit))
 }

@@ -6,8 +6,6 @@ use crate::support::arrayvec::ArrayVec;
 use crate::support::unicode::properties::{GeneralCategory, is_grapheme_extend};
 
 mod strings;
-#[cfg(test)]
-mod tests;
 
 pub use strings::{is_string, put_string_literal};
 
@@ -24,17 +22,17 @@ enum Escape {
 
 /// Returns `true` if a character of this category, past ASCII, is written as its code.
 fn is_hidden_category(category: GeneralCategory) -> bool {
-    match category {
+    matches!(
+        category,
         GeneralCategory::Control
-        | GeneralCategory::Format
-        | GeneralCategory::Surrogate
-        | GeneralCategory::PrivateUse
-        | GeneralCategory::Unassigned
-        | GeneralCategory::LineSeparator
-        | GeneralCategory::ParagraphSeparator
-        | GeneralCategory::SpaceSeparator => true,
-        _ => false,
-    }
+            | GeneralCategory::Format
+            | GeneralCategory::Surrogate
+            | GeneralCategory::PrivateUse
+            | GeneralCategory::Unassigned
+            | GeneralCategory::LineSeparator
+            | GeneralCategory::ParagraphSeparator
+            | GeneralCategory::SpaceSeparator
+    )
 }
 
 /// Returns `true` if a character past ASCII is written as itself.

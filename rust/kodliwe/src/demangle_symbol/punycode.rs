@@ -2,12 +2,10 @@
 //! Decodes Punycode (RFC 3492) in the form of v0 names: `_` replaces `-`, and digits are lower
 //! case.
 
-use crate::demangle_symbol::cursor::{Ident, Looks, Part, Symbol};
+use crate::demangle_symbol::cursor::{Ident, Part, Symbol};
 use crate::support::arrayvec::ArrayVec;
 
 mod printing;
-#[cfg(test)]
-mod tests;
 
 /// The most characters that a decoded name may have.
 pub const SMALL_PUNYCODE_LEN: usize = 128;
@@ -27,8 +25,8 @@ fn digit_of(byte: u8) -> Option<u64> {
 }
 
 /// Returns the value of the digit at a place of the symbol, or `None` if another byte is there.
-fn digit_at(symbol: &Symbol<'_>, place: usize, looks: &mut Looks) -> Option<u64> {
-    match symbol.byte(place, looks) {
+fn digit_at(symbol: &Symbol<'_>, place: usize) -> Option<u64> {
+    match symbol.byte(place) {
         Some(byte) => digit_of(byte),
         None => None,
     }
@@ -39,7 +37,7 @@ fn digit_at(symbol: &Symbol<'_>, place: usize, looks: &mut Looks) -> Option<u64>
 fn threshold(place: u64, bias: u64) -> u64 {
     // RFC 3492 uses the least threshold, 1, for a place up to the bias. The difference is 0 there,
     // as it saturates.
-    place.saturating_sub(bias).max(1).min(26)
+    place.saturating_sub(bias).clamp(1, 26)
 }
 
 /// Returns the bias after a delta. `count` is the number of characters with the new one.
@@ -58,19 +56,12 @@ fn adapt(delta: u64, count: u64, first: bool) -> u64 {
 
 /// Reads the first delta of a part and returns it with the place after it. Returns `None` if a byte
 /// is not a digit, if the part ends too early, or if the delta is too large for any character.
-fn delta_at(
-    symbol: &Symbol<'_>,
-    digits: Part,
-    bias: u64,
-    looks: &mut Looks,
-) -> Option<(u64, usize)> {
+fn delta_at(symbol: &Symbol<'_>, digits: Part, bias: u64) -> Option<(u64, usize)> {
     let mut sum: u64 = 0;
     let mut weight: u64 = 1;
     let mut place: u64 = 36;
     for at in digits.from..digits.to {
-        let Some(digit) = digit_at(symbol, at, looks) else {
-            return None;
-        };
+        let digit = digit_at(symbol, at)?;
         let last_below = threshold(place, bias);
         sum += digit * weight;
         if sum > MAX_DELTA {
@@ -91,14 +82,13 @@ fn delta_at(
 fn ascii_characters(
     symbol: &Symbol<'_>,
     ascii: Part,
-    looks: &mut Looks,
 ) -> Option<ArrayVec<char, SMALL_PUNYCODE_LEN>> {
     let mut characters = ArrayVec::new();
     if ascii.to - ascii.from > SMALL_PUNYCODE_LEN {
         return None;
     }
     for at in ascii.from..ascii.to {
-        if let Some(byte) = symbol.byte(at, looks) {
+        if let Some(byte) = symbol.byte(at) {
             characters.push(char::from(byte));
         }
     }
@@ -109,14 +99,8 @@ fn ascii_characters(
 /// delta is incomplete, a value is not a Unicode scalar value, or there are more than 128
 /// characters.
 #[inline(never)]
-fn decode(
-    symbol: &Symbol<'_>,
-    name: Ident,
-    looks: &mut Looks,
-) -> Option<ArrayVec<char, SMALL_PUNYCODE_LEN>> {
-    let Some(mut characters) = ascii_characters(symbol, name.ascii, looks) else {
-        return None;
-    };
+fn decode(symbol: &Symbol<'_>, name: Ident) -> Option<ArrayVec<char, SMALL_PUNYCODE_LEN>> {
+    let mut characters = ascii_characters(symbol, name.ascii)?;
     let end = name.punycode.to;
     // The initial values of RFC 3492. `n` is the last code point that was inserted, and `i` the
     // index after it.
@@ -127,9 +111,7 @@ fn decode(
     let mut at = name.punycode.from;
     while at < end {
         let digits = Part { from: at, to: end };
-        let Some((delta, next)) = delta_at(symbol, digits, bias, looks) else {
-            return None;
-        };
+        let (delta, next) = delta_at(symbol, digits, bias)?;
         // The Rust crate decodes into 128 characters. It prints a longer name undecoded.
         if characters.is_full() {
             return None;
@@ -137,9 +119,7 @@ fn decode(
         let count = characters.len() as u64 + 1;
         n += (i + delta) / count;
         i = (i + delta) % count;
-        let Some(c) = char::from_u32(n as u32) else {
-            return None;
-        };
+        let c = char::from_u32(n as u32)?;
         characters.insert(i as usize, c);
         i += 1;
         bias = adapt(delta, count, first);

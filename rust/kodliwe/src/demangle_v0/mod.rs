@@ -2,20 +2,17 @@
 //! v0 symbols (RFC 2603): a prefix, one path or two, then a suffix.
 
 use crate::demangle_sink::{SizeLimitedFmtAdapter, TextSink};
-use crate::demangle_symbol::cursor::{Looks, ParseError, Symbol};
+use crate::demangle_symbol::cursor::{ParseError, Symbol};
+use crate::demangle_symbol::form::Form;
 use crate::demangle_v0::validation::{begins_path, print_to_suffix, suffix_at};
 use crate::demangle_v0_tokens::source::Source;
 
-mod acceptance;
+mod fuel;
 mod parser;
 mod printer;
-#[cfg(test)]
-#[cfg(feature = "std")]
-mod tests;
 mod validation;
 mod value;
 
-pub use acceptance::demangle_printed_within;
 pub use value::Demangle;
 
 /// Returns the text after the prefix of a v0 symbol, or `None` without such a prefix.
@@ -33,27 +30,22 @@ fn inner_of(s: &str) -> Option<&str> {
 
 /// Returns the text as a symbol, if it is ASCII and has a prefix of the v0 scheme. Otherwise it
 /// returns `None`. No path is read: the first one prints up to its first syntax error.
-pub fn ascii_symbol<'s>(s: &'s str, looks: &mut Looks) -> Option<Demangle<'s>> {
+pub fn ascii_symbol(s: &str) -> Option<Demangle<'_>> {
     let text = Symbol::new(s);
-    if !text.is_ascii(looks) {
+    if !text.is_ascii() {
         return None;
     }
-    match inner_of(s) {
-        Some(inner) => Some(Demangle::new(Symbol::new(inner))),
-        None => None,
-    }
+    inner_of(s).map(|inner| Demangle::new(Symbol::new(inner)))
 }
 
 /// Returns the text after the prefix of a v0 symbol, if it is ASCII, and otherwise `None`. This is
 /// not tested if `is_ascii` says that the text is known to be ASCII.
-fn ascii_inner_of<'s>(s: &'s str, is_ascii: bool, looks: &mut Looks) -> Option<&'s str> {
-    let Some(inner) = inner_of(s) else {
-        return None;
-    };
+fn ascii_inner_of(s: &str, is_ascii: bool) -> Option<&str> {
+    let inner = inner_of(s)?;
     if is_ascii {
         return Some(inner);
     }
-    if !Symbol::new(inner).is_ascii(looks) {
+    if !Symbol::new(inner).is_ascii() {
         return None;
     }
     Some(inner)
@@ -63,19 +55,15 @@ fn ascii_inner_of<'s>(s: &'s str, is_ascii: bool, looks: &mut Looks) -> Option<&
 /// text is known to be ASCII.
 ///
 /// Fails if the prefix is missing, the text is not ASCII, or a path is missing or has an error.
-pub fn demangle<'s>(
-    s: &'s str,
-    is_ascii: bool,
-    looks: &mut Looks,
-) -> Result<(Demangle<'s>, &'s str), ParseError> {
-    let Some(inner) = ascii_inner_of(s, is_ascii, looks) else {
+pub fn demangle(s: &str, is_ascii: bool) -> Result<(Demangle<'_>, &str), ParseError> {
+    let Some(inner) = ascii_inner_of(s, is_ascii) else {
         return Err(ParseError::Invalid);
     };
     let symbol = Symbol::new(inner);
-    if !begins_path(&symbol, 0, looks) {
+    if !begins_path(&symbol, 0) {
         return Err(ParseError::Invalid);
     }
-    let Some(end) = suffix_at(&symbol, looks) else {
+    let Some(end) = suffix_at(&symbol) else {
         return Err(ParseError::Invalid);
     };
     Ok((Demangle::new(symbol), &inner[end..]))
@@ -86,26 +74,23 @@ pub fn demangle<'s>(
 /// after its paths. The text must be ASCII.
 ///
 /// Returns `None` if the text is not a v0 symbol. Also returns `None` if a lifetime or a reference
-/// of the path has an error, if the limit or the sink rejects a piece, or if the path is nested
-/// deeply. Then an unknown part of the path may be printed, and `demangle` says whether the text is
-/// a symbol.
+/// of the path has an error, if the limit or the sink rejects a piece, if the path is nested
+/// deeply, or if its references lead back too far for the length of the text. Then an unknown part
+/// of the path may be printed, and `demangle` says whether the text is a symbol.
 pub fn demangle_printed<'s, S: TextSink>(
     s: &'s str,
     out: &mut SizeLimitedFmtAdapter<'_, S>,
-    include_hash: bool,
-    fold_arguments: bool,
+    form: Form,
 ) -> Option<(Demangle<'s>, &'s str)> {
-    let mut looks = Looks::new();
-    let inner = ascii_inner_of(s, true, &mut looks)?;
+    let inner = ascii_inner_of(s, true)?;
     let symbol = Symbol::new(inner);
-    if !begins_path(&symbol, 0, &mut looks) {
+    if !begins_path(&symbol, 0) {
         return None;
     }
     let source = Source {
         symbol: &symbol,
-        include_hash,
-        fold_arguments,
+        form,
     };
-    let end = print_to_suffix(source, out, &mut looks)?;
+    let end = print_to_suffix(source, out)?;
     Some((Demangle::new(symbol), &inner[end..]))
 }

@@ -2,12 +2,14 @@
 //! A v0 symbol that was read. It prints its first path.
 
 use crate::demangle_sink::{SinkRefused, SizeLimitedFmtAdapter, TextSink};
-use crate::demangle_symbol::cursor::{Looks, Symbol};
-use crate::demangle_v0::parser::frames::SHORT_STACK;
+use crate::demangle_symbol::cursor::Symbol;
+use crate::demangle_symbol::form::Form;
+use crate::demangle_v0::parser::frames::{SHORT_STACK, UNUSED_FRAME};
 use crate::demangle_v0::parser::machine::Parser;
 use crate::demangle_v0_tokens::source::Source;
 
 /// A v0 symbol that was read: the bytes after its prefix, with the suffix.
+#[derive(Clone, Copy)]
 pub struct Demangle<'s> {
     inner: Symbol<'s>,
 }
@@ -25,18 +27,14 @@ impl<'s> Demangle<'s> {
     pub fn write_to<S: TextSink>(
         &self,
         out: &mut SizeLimitedFmtAdapter<'_, S>,
-        include_hash: bool,
-        fold_arguments: bool,
-        looks: &mut Looks,
+        form: Form,
     ) -> Result<(), SinkRefused> {
         let source = Source {
             symbol: &self.inner,
-            include_hash,
-            fold_arguments,
+            form,
         };
-        let mut parser: Parser<SHORT_STACK> = Parser::at_path(source, 0, looks);
-        let printed = parser.print_path(out);
-        *looks = parser.looks;
-        printed
+        let mut memory = [UNUSED_FRAME; SHORT_STACK];
+        let mut parser = Parser::at_path(source, 0, &mut memory);
+        parser.print_path(out)
     }
 }

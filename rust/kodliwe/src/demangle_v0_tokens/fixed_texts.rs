@@ -63,7 +63,7 @@ pub enum FixedText {
 }
 
 /// Returns the characters of a fixed text.
-#[inline(always)]
+#[cfg_attr(not(debug_assertions), inline(always))]
 pub fn text(fixed_text: FixedText) -> &'static str {
     match fixed_text {
         FixedText::Invalid => "{invalid syntax}",

@@ -2,7 +2,6 @@
 //! The outputs to which the parser sends its tokens: a sink, or none.
 
 use crate::demangle_sink::{SinkRefused, SizeLimitedFmtAdapter, TextSink};
-use crate::demangle_symbol::cursor::Looks;
 use crate::demangle_v0_tokens::source::Source;
 use crate::demangle_v0_tokens::token::Token;
 
@@ -19,79 +18,50 @@ pub trait Output {
     /// # Errors
     ///
     /// Returns `SinkRefused` if the sink or the size limit rejects a piece. No later piece is sent.
-    fn emit(
-        &mut self,
-        source: &Source<'_>,
-        token: &Token,
-        looks: &mut Looks,
-    ) -> Result<(), SinkRefused>;
+    fn emit(&mut self, source: &Source<'_>, token: &Token) -> Result<(), SinkRefused>;
 
     /// Prints the token of a syntax error.
     ///
     /// # Errors
     ///
     /// Returns `SinkRefused` as `emit` does, and always if nothing is printed.
-    fn emit_error(
-        &mut self,
-        source: &Source<'_>,
-        token: &Token,
-        looks: &mut Looks,
-    ) -> Result<(), SinkRefused>;
+    fn emit_error(&mut self, source: &Source<'_>, token: &Token) -> Result<(), SinkRefused>;
 }
 
 /// An output that prints nothing. It is used to validate a symbol.
+#[derive(Clone, Copy)]
 pub struct NoOutput;
 
 impl Output for NoOutput {
-    #[inline(always)]
+    #[cfg_attr(not(debug_assertions), inline(always))]
     fn is_printing(&self) -> bool {
         false
     }
 
-    #[inline(always)]
-    fn emit(
-        &mut self,
-        _source: &Source<'_>,
-        _token: &Token,
-        _looks: &mut Looks,
-    ) -> Result<(), SinkRefused> {
+    #[cfg_attr(not(debug_assertions), inline(always))]
+    fn emit(&mut self, _source: &Source<'_>, _token: &Token) -> Result<(), SinkRefused> {
         Ok(())
     }
 
-    #[inline(always)]
-    fn emit_error(
-        &mut self,
-        _source: &Source<'_>,
-        _token: &Token,
-        _looks: &mut Looks,
-    ) -> Result<(), SinkRefused> {
+    #[cfg_attr(not(debug_assertions), inline(always))]
+    fn emit_error(&mut self, _source: &Source<'_>, _token: &Token) -> Result<(), SinkRefused> {
         Err(SinkRefused)
     }
 }
 
 impl<'s, S: TextSink> Output for SizeLimitedFmtAdapter<'s, S> {
-    #[inline(always)]
+    #[cfg_attr(not(debug_assertions), inline(always))]
     fn is_printing(&self) -> bool {
         true
     }
 
-    #[inline(always)]
-    fn emit(
-        &mut self,
-        source: &Source<'_>,
-        token: &Token,
-        looks: &mut Looks,
-    ) -> Result<(), SinkRefused> {
-        source.render(token, self, looks)
+    #[cfg_attr(not(debug_assertions), inline(always))]
+    fn emit(&mut self, source: &Source<'_>, token: &Token) -> Result<(), SinkRefused> {
+        source.render(token, self)
     }
 
-    #[inline(always)]
-    fn emit_error(
-        &mut self,
-        source: &Source<'_>,
-        token: &Token,
-        looks: &mut Looks,
-    ) -> Result<(), SinkRefused> {
-        source.render(token, self, looks)
+    #[cfg_attr(not(debug_assertions), inline(always))]
+    fn emit_error(&mut self, source: &Source<'_>, token: &Token) -> Result<(), SinkRefused> {
+        source.render(token, self)
     }
 }

@@ -1,7 +1,7 @@
 // Made from crates/demangle_v0_tokens/src/read.rt by packaging/crate/erase.py: edit that file instead.
 //! Reads the tokens of a v0 symbol. One step reads at most one.
 
-use crate::demangle_symbol::cursor::{Looks, Symbol};
+use crate::demangle_symbol::cursor::Symbol;
 use crate::demangle_v0_tokens::fixed_texts::FixedText;
 use crate::demangle_v0_tokens::token::{Abi, Token, TokenKind};
 
@@ -35,32 +35,27 @@ impl TokenReader<'_> {
     /// Reads a token at a place, which is `None` after an error.
     ///
     /// Returns the token and the place after it, or the error text with which the production ends.
-    #[inline(always)]
-    pub fn read_token(
-        &self,
-        token_kind: TokenKind,
-        place: Option<usize>,
-        looks: &mut Looks,
-    ) -> TokenOutcome {
+    #[cfg_attr(not(debug_assertions), inline(always))]
+    pub fn read_token(&self, token_kind: TokenKind, place: Option<usize>) -> TokenOutcome {
         let Some(at) = place else {
             return token_after_error(token_kind);
         };
         match token_kind {
-            TokenKind::FieldName => self.read_field(at, looks),
-            TokenKind::BindingName => self.read_binding(at, looks),
-            TokenKind::LifetimeIndex => self.read_lifetime(at, looks),
-            TokenKind::DynLifetime => self.read_dyn_lifetime(at, looks),
-            TokenKind::FunctionQualifiers => self.read_function_qualifiers(at, looks),
-            TokenKind::Number => self.read_number(at, looks),
-            TokenKind::Bool => self.read_bool(at, looks),
-            TokenKind::Character => self.read_character(at, looks),
-            TokenKind::StrLiteral => self.read_literal(at, looks),
+            TokenKind::FieldName => self.read_field(at),
+            TokenKind::BindingName => self.read_binding(at),
+            TokenKind::LifetimeIndex => self.read_lifetime(at),
+            TokenKind::DynLifetime => self.read_dyn_lifetime(at),
+            TokenKind::FunctionQualifiers => self.read_function_qualifiers(at),
+            TokenKind::Number => self.read_number(at),
+            TokenKind::Bool => self.read_bool(at),
+            TokenKind::Character => self.read_character(at),
+            TokenKind::StrLiteral => self.read_literal(at),
         }
     }
 }
 
 /// Returns the outcome for a token that is not read, because there was an error before it.
-#[inline(always)]
+#[cfg_attr(not(debug_assertions), inline(always))]
 fn token_after_error(token_kind: TokenKind) -> TokenOutcome {
     match token_kind {
         // A dyn type needs its `L`. After an error it is missing, and the Rust crate prints this as
@@ -75,13 +70,13 @@ fn token_after_error(token_kind: TokenKind) -> TokenOutcome {
 }
 
 /// Returns the result for a token that is not spelled.
-#[inline(always)]
+#[cfg_attr(not(debug_assertions), inline(always))]
 fn invalid_token() -> TokenOutcome {
     TokenOutcome::NotParsed(FixedText::Invalid)
 }
 
 /// Returns the result for a token that is spelled, and ends before `next`.
-#[inline(always)]
+#[cfg_attr(not(debug_assertions), inline(always))]
 fn token_read(token: Token, next: usize) -> TokenOutcome {
     TokenOutcome::Parsed(token, Some(next))
 }

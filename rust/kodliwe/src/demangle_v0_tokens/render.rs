@@ -2,12 +2,12 @@
 //! Prints tokens, piece by piece.
 
 use crate::demangle_sink::{SinkRefused, SizeLimitedFmtAdapter, TextSink, put_each};
-use crate::demangle_symbol::cursor::Looks;
-use crate::demangle_symbol::literal::{put_char_literal, put_string_literal};
 use crate::demangle_v0_tokens::fixed_texts::text;
 use crate::demangle_v0_tokens::render::names::NamespacedName;
 use crate::demangle_v0_tokens::source::Source;
 use crate::demangle_v0_tokens::token::Token;
+
+use crate::demangle_symbol::literal::{put_char_literal, put_string_literal};
 
 mod functions;
 mod lifetimes;
@@ -22,25 +22,24 @@ impl Source<'_> {
     /// # Errors
     ///
     /// Returns `SinkRefused` if the sink or the size limit rejects a piece. No later piece is sent.
-    #[inline(always)]
+    #[cfg_attr(not(debug_assertions), inline(always))]
     pub fn render<S: TextSink>(
         &self,
         token: &Token,
         out: &mut SizeLimitedFmtAdapter<'_, S>,
-        looks: &mut Looks,
     ) -> Result<(), SinkRefused> {
         match token {
             Token::Nothing => Ok(()),
             Token::Fixed(fixed_text) => out.put(text(*fixed_text)),
-            Token::CrateName(name, number) => self.put_crate_name(name, *number, out, looks),
-            Token::FieldName(name) => name.write_to(self.symbol, out, looks),
+            Token::CrateName(name, number) => self.put_crate_name(name, *number, out),
+            Token::FieldName(name) => name.write_to(self.symbol, out),
             Token::NestedName(namespace, number, ident) => {
                 let name = NamespacedName {
                     namespace: *namespace,
                     number: *number,
                     ident: *ident,
                 };
-                self.put_nested_name(name, out, looks)
+                self.put_nested_name(name, out)
             }
             Token::NameAfterError => put_each(&["::", "?"], out),
             Token::Lifetime(None) => put_each(&["'", "_"], out),
@@ -51,15 +50,15 @@ impl Source<'_> {
             Token::DynLifetime(number) => put_prefixed_lifetime(" + ", *number, out),
             Token::DynLifetimeError => put_each(&[" + ", "'", "{invalid syntax}"], out),
             Token::FunctionQualifiers(is_unsafe, abi) => {
-                self.put_function_qualifiers(*is_unsafe, *abi, out, looks)
+                self.put_function_qualifiers(*is_unsafe, *abi, out)
             }
             Token::Number(value, nibbles, tag) => {
                 self.put_number_constant(*value, *nibbles, *tag, out)
             }
             Token::Character(c) => put_char_literal(*c, out),
-            Token::StrLiteral(nibbles) => put_string_literal(self.symbol, *nibbles, out, looks),
+            Token::StrLiteral(nibbles) => put_string_literal(self.symbol, *nibbles, out),
             Token::Binder(first, count) => put_binder(*first, *count, out),
-            Token::BindingName(name) => self.put_binding(name, out, looks),
+            Token::BindingName(name) => self.put_binding(name, out),
         }
     }
 }

@@ -1,6 +1,7 @@
 // Made from crates/demangle_v0_tokens/src/source.rt by packaging/crate/erase.py: edit that file instead.
 //! The symbol that is printed, and the form of its text.
 use crate::demangle_symbol::cursor::Symbol;
+use crate::demangle_symbol::form::Form;
 
 /// A symbol, and the form in which it is printed.
 ///
@@ -9,9 +10,5 @@ use crate::demangle_symbol::cursor::Symbol;
 pub struct Source<'s> {
     /// The symbol's bytes after its prefix.
     pub symbol: &'s Symbol<'s>,
-    /// Whether the text includes the hashes of crates and the types of numbers. The alternate form
-    /// omits both.
-    pub include_hash: bool,
-    /// Whether each list of a path's generic arguments is printed as `_`.
-    pub fold_arguments: bool,
+    pub form: Form,
 }

@@ -14,7 +14,7 @@ pub enum PathKind {
 }
 
 /// Returns the kind of the path that begins with a tag, or `None` if no path does.
-#[inline(always)]
+#[cfg_attr(not(debug_assertions), inline(always))]
 pub fn path_kind(tag: u8) -> Option<PathKind> {
     match tag {
         b'C' => Some(PathKind::CrateRoot),
@@ -52,7 +52,7 @@ pub enum ConstructedType {
 
 /// Returns the kind of the type that begins with a tag. The result is `None` for any other tag,
 /// such as that of a basic type or a path.
-#[inline(always)]
+#[cfg_attr(not(debug_assertions), inline(always))]
 pub fn type_kind(tag: u8) -> Option<TypeKind> {
     let constructed = match tag {
         b'R' => return Some(TypeKind::SharedReference),
@@ -89,7 +89,7 @@ pub enum ConstantKind {
 }
 
 /// Returns the kind of the constant that begins with a tag, or `None` if no constant does.
-#[inline(always)]
+#[cfg_attr(not(debug_assertions), inline(always))]
 pub fn constant_kind(tag: u8) -> Option<ConstantKind> {
     match tag {
         b'p' => Some(ConstantKind::Placeholder),
@@ -117,7 +117,7 @@ pub enum VariantKind {
 }
 
 /// Returns the kind of a variant by the tag of its fields, or `None` if no fields have this tag.
-#[inline(always)]
+#[cfg_attr(not(debug_assertions), inline(always))]
 pub fn variant_kind(tag: u8) -> Option<VariantKind> {
     match tag {
         b'U' => Some(VariantKind::Unit),
@@ -136,7 +136,7 @@ pub enum PatternKind {
 }
 
 /// Returns the kind of the pattern that begins with a tag, or `None` if no pattern does.
-#[inline(always)]
+#[cfg_attr(not(debug_assertions), inline(always))]
 pub fn pattern_kind(tag: u8) -> Option<PatternKind> {
     match tag {
         b'R' => Some(PatternKind::Range),

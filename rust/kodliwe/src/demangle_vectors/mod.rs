@@ -2,7 +2,6 @@
 //! Tests of the library with vectors of the Rust crate: symbols and their printed texts.
 
 #[cfg(test)]
-#[cfg(feature = "std")]
 mod tests;
 
 use crate::rustc_demangle::demangle;

@@ -5,20 +5,25 @@ use crate::rustc_demangle::sink::WriteSink;
 use crate::rustc_demangle::{Demangle, demangle, try_demangle};
 use crate::support::alloc::{AllocError, Global};
 use crate::support::format;
-use crate::support::process::Abort;
-use crate::support::string::RepeatIn;
 use crate::support::string::String;
+use crate::support::texts::RepeatIn;
 use crate::support::vec::Vec;
 
 mod beginnings;
 mod bytes;
+mod bytes_before;
 mod calls;
 mod faults;
 mod folded;
 mod formats;
 mod hostile;
 mod legacy;
+mod legacy_elements;
 mod limits;
+mod literals;
+mod names;
+mod pieces;
+mod primitives;
 mod refused;
 mod repeats;
 mod sinks;
@@ -35,14 +40,14 @@ mod v0_types;
 mod vectors;
 
 /// Asserts that a text is a symbol that prints as these texts, with the hash and without it.
-fn assert_prints(rt: &impl Abort, symbol: &str, plain: &str, alt: &str) {
+fn assert_prints(symbol: &str, plain: &str, alt: &str) {
     assert!(try_demangle(symbol).is_ok(), "{symbol} is a symbol");
     assert!(printed_is(symbol, true, plain), "{symbol} with the hash");
     assert!(printed_is(symbol, false, alt), "{symbol} without the hash");
 }
 
 /// Asserts that a text is not a symbol and prints as this text in both forms.
-fn assert_rejected(rt: &impl Abort, text: &str, printed: &str) {
+fn assert_rejected(text: &str, printed: &str) {
     assert!(try_demangle(text).is_err(), "{text} is no symbol");
     assert!(printed_is(text, true, printed), "{text} with the hash");
     assert!(printed_is(text, false, printed), "{text} without the hash");
@@ -70,12 +75,7 @@ fn print_symbol(alloc: Global, symbol: &str, include_hash: bool) -> Result<Vec<u
 }
 
 /// Asserts that a text is a symbol that prints as this text in both forms, of any length.
-fn assert_prints_long(
-    rt: &impl Abort,
-    alloc: Global,
-    symbol: &str,
-    text: &str,
-) -> Result<(), AllocError> {
+fn assert_prints_long(alloc: Global, symbol: &str, text: &str) -> Result<(), AllocError> {
     assert!(try_demangle(symbol).is_ok(), "it is a symbol");
     for include_hash in [true, false] {
         let printed = print_symbol(alloc, symbol, include_hash)?;

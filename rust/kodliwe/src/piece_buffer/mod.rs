@@ -1,15 +1,11 @@
 // Made from crates/piece_buffer/src/lib.rt by packaging/crate/erase.py: edit that file instead.
 //! A buffer for bytes on their way to a writer, which makes pieces of a few bytes cheap.
 
-mod array;
-
-pub use array::PieceArray;
-
 /// The most bytes that the buffer holds. They are on the stack.
 pub const CAPACITY: usize = 2048;
 
 /// Copies a piece of `N` to `2 * N` bytes: its first `N` and its last `N`, which may overlap.
-#[inline(always)]
+#[cfg_attr(not(debug_assertions), inline(always))]
 fn copy_ends<const N: usize>(piece: &[u8], room: &mut [u8]) {
     *room.first_chunk_mut::<N>().unwrap() = *piece.first_chunk::<N>().unwrap();
     *room.last_chunk_mut::<N>().unwrap() = *piece.last_chunk::<N>().unwrap();
@@ -61,7 +57,7 @@ impl PieceBuffer {
     }
 
     /// Appends all of the piece. If there is no room for it, returns `false` and changes nothing.
-    #[inline(always)]
+    #[cfg_attr(not(debug_assertions), inline(always))]
     pub fn push(&mut self, piece: &[u8]) -> bool {
         let start = self.len;
         let end = start + piece.len();

@@ -2,16 +2,20 @@
 //! Formats a demangled symbol.
 
 use crate::demangle_sink::FmtSink;
+use crate::rustc_demangle::coalescing::write_coalesced;
 use crate::rustc_demangle::value::Demangle;
 use core::fmt;
 
 /// Prints with the hash, and with `{:#}` without it. Width, fill, sign and precision have no
-/// effect. Fails if the formatter rejects a piece.
+/// effect.
+///
+/// The formatter gets several pieces of the text at once. Fails if it rejects a part. It then got a
+/// prefix of the text.
 impl fmt::Display for Demangle<'_> {
     fn fmt(&self, f: &mut fmt::Formatter<'_>) -> fmt::Result {
         let include_hash = !f.alternate();
         let mut sink = FmtSink::new(f);
-        match self.write_to(&mut sink, include_hash) {
+        match write_coalesced(self, &mut sink, include_hash) {
             Ok(()) => Ok(()),
             Err(_) => Err(fmt::Error),
         }

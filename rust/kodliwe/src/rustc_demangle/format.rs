@@ -1,6 +1,8 @@
 // Made from crates/rustc_demangle/src/format.rt by packaging/crate/erase.py: edit that file instead.
 //! The format in which symbols are printed.
 
+use crate::demangle_symbol::form::Form;
+
 /// How a symbol is printed.
 ///
 /// The calls without a `Format` print generic arguments.
@@ -35,6 +37,15 @@ impl Format {
             include_hash,
             fold_arguments: true,
             limit,
+        }
+    }
+
+    /// Returns the format without its limit.
+    #[cfg_attr(not(debug_assertions), inline(always))]
+    pub(crate) fn form(self) -> Form {
+        Form {
+            include_hash: self.include_hash,
+            fold_arguments: self.fold_arguments,
         }
     }
 }

@@ -1,24 +1,27 @@
 // Made from crates/rustc_demangle/src/lib.rt by packaging/crate/erase.py: edit that file instead.
 //! Demangles Rust symbols.
 
+mod byte_before;
+mod coalescing;
 mod display;
 mod format;
-pub mod laws;
 mod printed_first;
 mod runs;
 pub mod sink;
 mod slice;
-#[cfg(feature = "std")]
+#[cfg(feature = "stream")]
 mod stream;
 mod strip;
 mod text;
 mod value;
 
-pub use crate::demangle_symbol::cursor::Looks;
 pub use format::Format;
-pub use runs::{run_len, run_start};
+#[cfg(all(test, feature = "stream"))]
+pub use runs::run_len;
+#[cfg(feature = "stream")]
+pub use runs::run_start;
 pub use slice::{demangle_slice, demangle_slice_formatted};
-#[cfg(feature = "std")]
+#[cfg(feature = "stream")]
 pub use stream::{
     BytesFilter, StreamFault, SymbolMemo, demangle_bytes, demangle_bytes_formatted,
     demangle_bytes_limited, demangle_stream, demangle_stream_named,
@@ -34,21 +37,12 @@ pub struct TryDemangleError {
     _priv: (),
 }
 
-/// Parses a text as a Rust symbol, in the legacy scheme or in v0 (Rust RFC 2603), and counts its
-/// looks.
-///
-/// A suffix that ThinLTO appended is removed first. A text that is not a symbol is kept as it is.
-/// It does not allocate.
-pub fn demangle_counted<'a>(s: &'a str, looks: &mut Looks) -> Demangle<'a> {
-    Demangle::read(without_thin_lto(s), false, looks)
-}
-
 /// Parses a text as a Rust symbol, in the legacy scheme or in v0 (Rust RFC 2603).
 ///
 /// A suffix that ThinLTO appended is removed first. A text that is not a symbol is kept as it is.
 /// It does not allocate.
 pub fn demangle(s: &str) -> Demangle<'_> {
-    demangle_counted(s, &mut Looks::new())
+    Demangle::read(without_thin_lto(s), false)
 }
 
 /// Parses a text as a Rust symbol, as `demangle` does. Fails if it is not a symbol.

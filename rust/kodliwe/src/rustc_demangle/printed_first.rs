@@ -1,17 +1,15 @@
 // Made from crates/rustc_demangle/src/printed_first.rt by packaging/crate/erase.py: edit that file instead.
 //! Prints the v0 runs of bytes in memory before it is known which of them are symbols.
 
-use crate::demangle_sink::{SinkRefused, SizeLimitedFmtAdapter, SliceSink, TextSink, put_piece};
-use crate::demangle_symbol::cursor::Looks;
-use crate::piece_buffer::PieceArray;
+use crate::demangle_sink::{SinkRefused, SliceSink};
 use crate::rustc_demangle::format::Format;
-use crate::rustc_demangle::strip::without_thin_lto;
 use crate::rustc_demangle::text::put_run;
-use crate::rustc_demangle::value::is_allowed;
+use crate::rustc_demangle::value::printing::print_v0_run;
+
 use crate::support::memchr::memchr;
 
 #[cfg(test)]
-#[cfg(feature = "std")]
+#[cfg(feature = "stream")]
 mod tests;
 
 /// The most bytes of a text that is printed first. They are on the stack, and each text costs their
@@ -34,41 +32,9 @@ static ONES: [u8; 32] = *b"1098765432109876543210987654321 ";
 /// The digits before those.
 static TENS: [u8; 32] = *b"3322222222221111111111000000000 ";
 
-/// A sink that keeps a short text. It fails if it has no room for a piece.
-struct ShortText {
-    held: PieceArray<TEXT_SIZE>,
-    failed: bool,
-}
-
-impl ShortText {
-    /// Returns an empty sink that has not failed.
-    #[inline(always)]
-    fn new() -> Self {
-        ShortText {
-            held: PieceArray::new(),
-            failed: false,
-        }
-    }
-}
-
-impl TextSink for ShortText {
-    #[inline(always)]
-    fn put(&mut self, s: &str) -> Result<(), SinkRefused> {
-        if self.held.push(s.as_bytes()) {
-            return Ok(());
-        }
-        self.failed = true;
-        Err(SinkRefused)
-    }
-
-    fn is_failed(&self) -> bool {
-        self.failed
-    }
-}
-
 /// Returns whether these bytes may begin a part that takes far longer to print than to validate: a
 /// name in Punycode of ten bytes or more, or a binder of two lifetimes or more.
-#[inline(always)]
+#[cfg_attr(not(debug_assertions), inline(always))]
 fn may_print_slowly(first: u8, second: u8, third: u8) -> bool {
     let punycode =
         (first == b'u') & (second >= b'1') & (second <= b'9') & (third >= b'0') & (third <= b'9');
@@ -77,7 +43,7 @@ fn may_print_slowly(first: u8, second: u8, third: u8) -> bool {
 }
 
 /// Returns whether such a part may begin in the group of 16 bytes at `from`.
-#[inline(always)]
+#[cfg_attr(not(debug_assertions), inline(always))]
 fn group_may_print_slowly(run: &[u8], from: usize) -> bool {
     // Arrays need no bounds check in the loop, so the compiler vectorizes it.
     let Some(firsts) = run[from..].first_chunk::<16>() else {
@@ -115,7 +81,7 @@ fn run_may_print_slowly(run: &[u8]) -> bool {
 /// Returns whether a path may end where these bytes end: with an `E`, a back reference of up to two
 /// digits, a closure, or a name of 1 to 31 bytes directly after its length. Returns `false` if there
 /// are fewer than 33 bytes.
-#[inline(always)]
+#[cfg_attr(not(debug_assertions), inline(always))]
 fn may_end_path(path: &[u8]) -> bool {
     let Some(from) = path.len().checked_sub(33) else {
         return false;
@@ -148,7 +114,7 @@ fn may_end_path(path: &[u8]) -> bool {
 /// Returns whether a v0 run may be a complete symbol. Its third byte must be the tag of a path that
 /// is not a reference. A path must be able to end at its first `.`, or else at its end. A symbol
 /// that was cut off probably ends within a name.
-#[inline(always)]
+#[cfg_attr(not(debug_assertions), inline(always))]
 fn may_be_complete(run: &[u8]) -> bool {
     let Some(b'C' | b'I' | b'M' | b'N' | b'X' | b'Y') = run.get(2) else {
         return false;
@@ -160,7 +126,7 @@ fn may_be_complete(run: &[u8]) -> bool {
 /// Returns whether a run is printed first: a v0 run that is probably complete, and whose text is
 /// probably short and printed fast. With a limit below the buffer's size, some texts would be cut in
 /// vain.
-#[inline(always)]
+#[cfg_attr(not(debug_assertions), inline(always))]
 fn is_printed_first(run: &str, format: Format) -> bool {
     run.starts_with("_R")
         && run.len() <= MAX_RUN
@@ -170,46 +136,40 @@ fn is_printed_first(run: &str, format: Format) -> bool {
 }
 
 /// Returns the most bytes of the text of a run that is printed first.
-#[inline(always)]
+#[cfg_attr(not(debug_assertions), inline(always))]
 fn text_limit(run: &str, format: Format) -> usize {
     let most = run.len().saturating_mul(2).saturating_add(MORE_TEXT);
     format.limit.min(most)
 }
 
-/// Prints a run that is a v0 symbol, as `value::printing::print_v0_run` does, with fuel for its
-/// steps and a lower limit. Returns `false` if the run is not known to be a symbol then.
-#[inline(always)]
-fn print_run_within<S: TextSink>(run: &str, out: &mut S, format: Format) -> bool {
-    let text = without_thin_lto(run);
-    let mut limited = SizeLimitedFmtAdapter::new(out, text_limit(run, format));
-    let read = crate::demangle_v0::demangle_printed_within(
-        text,
-        &mut limited,
-        format.include_hash,
-        format.fold_arguments,
-    );
-    let Some((_, suffix)) = read else {
-        return false;
-    };
-    let mut looks = Looks::new();
-    is_allowed(suffix, &mut looks) && put_piece(suffix, out).is_ok()
+/// Prints a v0 run into memory. Returns the size of its text, or `None` if the run is not known to
+/// be a symbol then.
+#[cfg_attr(not(debug_assertions), inline(always))]
+fn print_into(run: &str, memory: &mut [u8], format: Format) -> Option<usize> {
+    let mut sink = SliceSink::new(memory);
+    let limit = text_limit(run, format);
+    if print_v0_run(run, &mut sink, format, limit) {
+        Some(sink.len())
+    } else {
+        None
+    }
 }
 
-/// Prints a v0 run, and then writes its text. Returns `false` if the run is not known to be a symbol
-/// then, or if the size would exceed `usize::MAX`. Then it writes nothing.
-// It is not inlined: its buffer and its parser need no stack while the run is read again.
+/// Prints a v0 run, and then writes its text. Returns `false` if the run is not known to be a
+/// symbol then, if its text is too long, or if the size would exceed `usize::MAX`. Then it writes
+/// nothing.
+// It is not inlined: its memory and its parser need no stack while the run is read again.
 #[inline(never)]
 fn put_printed<'b>(run: &str, out: &mut SliceSink<'b>, format: Format) -> bool {
-    let mut text = ShortText::new();
-    if !print_run_within(run, &mut text, format) {
+    let mut memory = [0u8; TEXT_SIZE];
+    let Some(size) = print_into(run, &mut memory, format) else {
         return false;
-    }
-    let bytes = text.held.as_slice();
+    };
     // If the count overflows, `put_run` still writes the pieces before that.
-    if bytes.len() > usize::MAX - out.len() {
+    if size > TEXT_SIZE || size > usize::MAX - out.len() {
         return false;
     }
-    out.put_bytes(bytes).is_ok()
+    out.put_bytes(&memory[..size]).is_ok()
 }
 
 /// Writes the replacement of a run as `put_run` does, and reads a v0 run once if it can. Fails if

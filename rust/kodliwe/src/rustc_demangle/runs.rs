@@ -10,13 +10,13 @@ pub(crate) fn starts_run(text: &[u8]) -> bool {
 }
 
 /// Returns whether these two bytes may start a run.
-#[inline(always)]
+#[cfg_attr(not(debug_assertions), inline(always))]
 fn may_start_run(first: u8, second: u8) -> bool {
     (first == b'_') & ((second == b'R') | (second == b'Z'))
 }
 
 /// Returns whether a run may start in the group of bytes at `from`.
-#[inline(always)]
+#[cfg_attr(not(debug_assertions), inline(always))]
 fn group_may_start_run<const N: usize>(text: &[u8], from: usize) -> bool {
     // Arrays need no bounds check in the loop, so the compiler vectorizes it.
     let Some(firsts) = text[from..].first_chunk::<N>() else {
@@ -33,7 +33,7 @@ fn group_may_start_run<const N: usize>(text: &[u8], from: usize) -> bool {
 }
 
 /// Returns the end of the complete groups after `from` in which no run starts.
-#[inline(always)]
+#[cfg_attr(not(debug_assertions), inline(always))]
 fn skip_groups<const N: usize>(text: &[u8], from: usize) -> usize {
     let mut at = from;
     while text.len() - at > N && !group_may_start_run::<N>(text, at) {
@@ -60,15 +60,15 @@ pub fn run_start(text: &[u8]) -> Option<usize> {
 }
 
 /// Returns whether this is a run byte.
-#[inline(always)]
-fn is_run_byte(byte: u8) -> bool {
+#[cfg_attr(not(debug_assertions), inline(always))]
+pub(crate) fn is_run_byte(byte: u8) -> bool {
     (byte == b'$') | (byte == b'.') | (byte == b'_') | byte.is_ascii_alphanumeric()
 }
 
 /// Returns 0 for a run byte, and another number for any other byte.
 // Vector instructions have the minimum, and the subtraction that stops at 0. They have no comparison
 // of a byte with a range.
-#[inline(always)]
+#[cfg_attr(not(debug_assertions), inline(always))]
 fn run_byte_distance(byte: u8) -> u8 {
     // A letter differs from the other case in one bit, and a digit from `0` in the lowest four.
     let letter = (byte | 0x20).wrapping_sub(b'a').saturating_sub(25);
@@ -81,7 +81,7 @@ fn run_byte_distance(byte: u8) -> u8 {
 }
 
 /// Returns how many run bytes a group of 16 bytes begins with.
-#[inline(always)]
+#[cfg_attr(not(debug_assertions), inline(always))]
 fn run_bytes_of(group: &[u8; 16]) -> usize {
     // The compiler vectorizes the loop. The distance of the first byte is the lowest byte of the
     // word. So eight trailing zeros are one run byte.
@@ -98,7 +98,7 @@ fn run_bytes_of(group: &[u8; 16]) -> usize {
 }
 
 /// Returns the length of the run at the start of a text of at least 16 bytes, given its last group.
-#[inline(always)]
+#[cfg_attr(not(debug_assertions), inline(always))]
 fn run_len_by_groups(text: &[u8], last: &[u8; 16]) -> usize {
     let mut at = 0;
     while let Some(group) = text[at..].first_chunk::<16>() {
@@ -113,7 +113,7 @@ fn run_len_by_groups(text: &[u8], last: &[u8; 16]) -> usize {
 }
 
 /// Returns the length of the run at the start of a text of 8 to 16 bytes, given its ends.
-#[inline(always)]
+#[cfg_attr(not(debug_assertions), inline(always))]
 fn run_len_by_ends(text: &[u8], first: &[u8; 8], last: &[u8; 8]) -> usize {
     // Both ends are one group. Bytes in the middle may be in it twice.
     let mut group = [0; 16];

@@ -2,9 +2,26 @@
 //! Demangles the symbols of any bytes in memory.
 
 use crate::demangle_sink::{SinkRefused, SliceSink};
+use crate::rustc_demangle::byte_before::ByteBefore;
 use crate::rustc_demangle::format::Format;
 use crate::rustc_demangle::printed_first::put_run_first;
 use crate::rustc_demangle::runs::{run_len, run_start, run_text};
+
+/// Writes the replacement of a candidate. Fails if the sink fails.
+///
+/// `pause` is the number of bytes in runs that are not printed first from here on.
+fn put_candidate<'b>(
+    candidate: &[u8],
+    before: ByteBefore,
+    out: &mut SliceSink<'b>,
+    format: Format,
+    pause: &mut usize,
+) -> Result<(), SinkRefused> {
+    if before.is_alphanumeric() {
+        return out.put_bytes(candidate);
+    }
+    put_run_first(run_text(candidate), out, format, pause)
+}
 
 /// Writes bytes, which need not be UTF-8, with each symbol of them demangled. Fails if the sink
 /// fails.
@@ -12,17 +29,18 @@ fn put_slice<'b>(text: &[u8], out: &mut SliceSink<'b>, format: Format) -> Result
     let mut rest = text;
     let mut pause = 0;
     while let Some(start) = run_start(rest) {
-        let (kept, found) = rest.split_at(start);
-        let (run, following) = found.split_at(run_len(found));
+        let before = ByteBefore::Outside;
+        let (kept, found) = rest.split_at(before.plain_len(&rest[..start]));
+        let (candidate, following) = found.split_at(run_len(found));
         out.put_bytes(kept)?;
-        put_run_first(run_text(run), out, format, &mut pause)?;
+        put_candidate(candidate, before.after(kept), out, format, &mut pause)?;
         rest = following;
     }
     out.put_bytes(rest)
 }
 
-/// Writes the pieces of any bytes into memory, with each symbol demangled. Returns their size, or
-/// `None` if it exceeds `usize::MAX`.
+/// Writes any bytes into memory, with each symbol demangled. Returns their size, or `None` if it
+/// exceeds `usize::MAX`.
 fn write_slice(text: &[u8], out: &mut [u8], format: Format) -> Option<usize> {
     let mut sink = SliceSink::new(out);
     match put_slice(text, &mut sink, format) {
@@ -34,7 +52,7 @@ fn write_slice(text: &[u8], out: &mut [u8], format: Format) -> Option<usize> {
 /// Writes any bytes into memory with each symbol of them demangled, as far as there is room.
 /// Returns the size of the complete output, including the bytes for which there was no room.
 ///
-/// Symbols are found, and cut at `limit` bytes, as by `demangle_text_limited`. All other bytes are
+/// Symbols are found as by `demangle_bytes_limited`, and cut at `limit` bytes. All other bytes are
 /// written unchanged. The size does not depend on the size of the memory. The memory after the
 /// written bytes stays unchanged. It does not allocate.
 ///

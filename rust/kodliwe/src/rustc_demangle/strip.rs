@@ -7,7 +7,7 @@ use crate::support::memchr::memrchr;
 const MAX_TAIL: usize = 16;
 
 /// Returns whether this byte may follow `.llvm.`.
-#[inline(always)]
+#[cfg_attr(not(debug_assertions), inline(always))]
 fn is_thin_lto_byte(byte: u8) -> bool {
     // `@` is directly before `A`.
     matches!(byte, b'@'..=b'F' | b'0'..=b'9')

@@ -2,7 +2,6 @@
 //! Demangles the symbols of a text in memory.
 
 use crate::demangle_sink::{SinkRefused, TextSink, put_piece};
-use crate::demangle_symbol::cursor::Looks;
 use crate::rustc_demangle::format::Format;
 use crate::rustc_demangle::runs::{run_len, run_start};
 use crate::rustc_demangle::value::{Demangle, MAX_SIZE};
@@ -16,7 +15,7 @@ pub(crate) fn put_run<S: TextSink>(
 ) -> Result<(), SinkRefused> {
     let symbol = Demangle::read_run(run);
     if symbol.has_style() {
-        symbol.write_pieces(out, format, &mut Looks::new())
+        symbol.write_pieces(out, format)
     } else {
         put_piece(run, out)
     }

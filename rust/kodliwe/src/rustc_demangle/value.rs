@@ -4,7 +4,7 @@
 pub(crate) mod printing;
 
 use crate::demangle_sink::{SinkRefused, SizeLimitedFmtAdapter, TextSink};
-use crate::demangle_symbol::cursor::{Looks, Symbol};
+use crate::demangle_symbol::cursor::Symbol;
 use crate::rustc_demangle::format::Format;
 use crate::rustc_demangle::strip::without_thin_lto;
 
@@ -12,6 +12,7 @@ use crate::rustc_demangle::strip::without_thin_lto;
 pub(crate) const MAX_SIZE: usize = 1_000_000;
 
 /// The scheme of a symbol, and its parsed form.
+#[derive(Clone, Copy)]
 pub(crate) enum DemangleStyle<'a> {
     Legacy(crate::demangle_legacy::Demangle<'a>),
     V0(crate::demangle_v0::Demangle<'a>),
@@ -24,19 +25,17 @@ impl DemangleStyle<'_> {
         &self,
         out: &mut SizeLimitedFmtAdapter<'_, S>,
         format: Format,
-        looks: &mut Looks,
     ) -> Result<(), SinkRefused> {
         match self {
-            DemangleStyle::Legacy(symbol) => symbol.write_to(out, format.include_hash, looks),
-            DemangleStyle::V0(symbol) => {
-                symbol.write_to(out, format.include_hash, format.fold_arguments, looks)
-            }
+            DemangleStyle::Legacy(symbol) => symbol.write_to(out, format.form()),
+            DemangleStyle::V0(symbol) => symbol.write_to(out, format.form()),
         }
     }
 }
 
 /// A text that is demangled if it is a Rust symbol. It prints the path that the symbol names. A
 /// text that is not a symbol prints unchanged.
+#[derive(Clone, Copy)]
 pub struct Demangle<'a> {
     style: Option<DemangleStyle<'a>>,
     original: &'a str,
@@ -67,16 +66,16 @@ fn is_graphic(byte: u8) -> bool {
 
 /// Returns whether a suffix is allowed: empty, or `.` followed only by graphic characters. It makes
 /// at most one look for each byte.
-pub(crate) fn is_allowed(suffix: &str, looks: &mut Looks) -> bool {
+pub(crate) fn is_allowed(suffix: &str) -> bool {
     let symbol = Symbol::new(suffix);
     if symbol.len() == 0 {
         return true;
     }
-    if !symbol.is_at(b'.', 0, looks) {
+    if !symbol.is_at(b'.', 0) {
         return false;
     }
     for at in 1..symbol.len() {
-        let Some(byte) = symbol.byte(at, looks) else {
+        let Some(byte) = symbol.byte(at) else {
             return false;
         };
         if !is_graphic(byte) {
@@ -88,30 +87,22 @@ pub(crate) fn is_allowed(suffix: &str, looks: &mut Looks) -> bool {
 
 /// Parses a text in one of the schemes, and returns the symbol and the rest of the text. Returns
 /// `None` if neither scheme accepts it. `is_ascii` says that the text is known to be ASCII.
-fn read_style<'a>(
-    text: &'a str,
-    is_ascii: bool,
-    looks: &mut Looks,
-) -> Option<(DemangleStyle<'a>, &'a str)> {
+fn read_style(text: &str, is_ascii: bool) -> Option<(DemangleStyle<'_>, &str)> {
     // No text has a prefix of both schemes, so the order does not change what is printed. The
     // prefixes of v0 are recognized from fewer bytes.
-    if let Ok((symbol, suffix)) = crate::demangle_v0::demangle(text, is_ascii, looks) {
+    if let Ok((symbol, suffix)) = crate::demangle_v0::demangle(text, is_ascii) {
         return Some((DemangleStyle::V0(symbol), suffix));
     }
-    match crate::demangle_legacy::demangle(text, is_ascii, looks) {
+    match crate::demangle_legacy::demangle(text, is_ascii) {
         Ok((symbol, suffix)) => Some((DemangleStyle::Legacy(symbol), suffix)),
         Err(()) => None,
     }
 }
 
 /// Returns the style and the suffix of a text, or `None` if it is not a symbol.
-fn style_of<'a>(
-    text: &'a str,
-    is_ascii: bool,
-    looks: &mut Looks,
-) -> Option<(DemangleStyle<'a>, &'a str)> {
-    let (style, suffix) = read_style(text, is_ascii, looks)?;
-    if is_allowed(suffix, looks) {
+fn style_of(text: &str, is_ascii: bool) -> Option<(DemangleStyle<'_>, &str)> {
+    let (style, suffix) = read_style(text, is_ascii)?;
+    if is_allowed(suffix) {
         Some((style, suffix))
     } else {
         None
@@ -121,8 +112,8 @@ fn style_of<'a>(
 impl<'a> Demangle<'a> {
     /// Parses a text as a symbol, and keeps it as it is if it is not one. `is_ascii` says that it
     /// is known to be ASCII.
-    pub(crate) fn read(text: &'a str, is_ascii: bool, looks: &mut Looks) -> Demangle<'a> {
-        match style_of(text, is_ascii, looks) {
+    pub(crate) fn read(text: &'a str, is_ascii: bool) -> Demangle<'a> {
+        match style_of(text, is_ascii) {
             Some((style, suffix)) => Demangle {
                 style: Some(style),
                 original: text,
@@ -136,9 +127,9 @@ impl<'a> Demangle<'a> {
         }
     }
 
-    /// Parses a run as a symbol, and keeps it as it is if it is not one. A run is ASCII.
+    /// Parses a run as a symbol. Keeps it as it is if it is not one. A run is ASCII.
     pub(crate) fn read_run(run: &'a str) -> Demangle<'a> {
-        Demangle::read(without_thin_lto(run), true, &mut Looks::new())
+        Demangle::read(without_thin_lto(run), true)
     }
 
     /// Returns whether the text is a symbol.

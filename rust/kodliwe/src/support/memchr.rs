@@ -27,7 +27,7 @@ pub fn memchr(needle: u8, text: &[u8]) -> Option<usize> {
 }
 
 /// Returns whether the byte is in a group.
-#[inline(always)]
+#[cfg_attr(not(debug_assertions), inline(always))]
 fn has_byte(needle: u8, group: &[u8; GROUP]) -> bool {
     // The compiler would not vectorize a loop that ends early.
     group
@@ -36,7 +36,7 @@ fn has_byte(needle: u8, group: &[u8; GROUP]) -> bool {
 }
 
 /// Returns the offset of the first byte with this value, eight bytes at a time.
-#[inline(always)]
+#[cfg_attr(not(debug_assertions), inline(always))]
 fn find_by_words(needle: u8, text: &[u8]) -> Option<usize> {
     let pattern = LOW * usize::from(needle);
     let mut at = 0;
@@ -76,7 +76,7 @@ pub fn memrchr(needle: u8, text: &[u8]) -> Option<usize> {
 }
 
 /// Returns the offset of the last byte with this value, eight bytes at a time from the end.
-#[inline(always)]
+#[cfg_attr(not(debug_assertions), inline(always))]
 fn find_last_by_words(needle: u8, text: &[u8]) -> Option<usize> {
     let pattern = LOW * usize::from(needle);
     let mut end = text.len();

@@ -13,6 +13,7 @@ pub struct Vec<T, A: Allocator = Global> {
 }
 
 impl<T, A: Allocator> Vec<T, A> {
+    /// Returns an empty vector.
     pub fn new(_alloc: A) -> Self {
         Vec {
             items: std::vec::Vec::new(),
@@ -20,6 +21,7 @@ impl<T, A: Allocator> Vec<T, A> {
         }
     }
 
+    /// Returns a vector of these elements.
     pub fn from_std(_alloc: A, items: std::vec::Vec<T>) -> Result<Self, AllocError> {
         Ok(Vec {
             items,
@@ -27,34 +29,46 @@ impl<T, A: Allocator> Vec<T, A> {
         })
     }
 
+    /// Returns the elements.
     pub fn as_slice(&self) -> &[T] {
         &self.items
     }
 
+    /// Appends an element.
     pub fn push(&mut self, item: T) -> Result<(), AllocError> {
         self.items.try_reserve(1).map_err(|_| AllocError)?;
         self.items.push(item);
         Ok(())
     }
 
+    /// Removes the last element, and returns it.
     pub fn pop(&mut self) -> Option<T> {
         self.items.pop()
     }
 
+    /// Removes all elements.
     pub fn clear(&mut self) {
         self.items.clear();
     }
 
+    /// Returns for how many elements there is memory.
     pub fn capacity(&self) -> usize {
         self.items.capacity()
     }
 
+    /// Makes room for more elements.
     pub fn reserve_exact(&mut self, more: usize) -> Result<(), AllocError> {
         self.items.try_reserve_exact(more).map_err(|_| AllocError)
+    }
+
+    /// Frees memory for which there are no elements.
+    pub fn shrink_to_fit(&mut self) {
+        self.items.shrink_to_fit();
     }
 }
 
 impl<T: Clone, A: Allocator> Vec<T, A> {
+    /// Appends copies of an element, or removes elements, until there are `len`.
     pub fn resize(&mut self, len: usize, item: T) -> Result<(), AllocError> {
         let more = len.saturating_sub(self.items.len());
         self.items.try_reserve(more).map_err(|_| AllocError)?;
@@ -64,12 +78,14 @@ impl<T: Clone, A: Allocator> Vec<T, A> {
 }
 
 impl<T: Copy, A: Allocator> Vec<T, A> {
+    /// Returns a vector of copies of the elements.
     pub fn from_slice(alloc: A, items: &[T]) -> Result<Self, AllocError> {
         let mut copy = Vec::new(alloc);
         copy.extend_from_slice(items)?;
         Ok(copy)
     }
 
+    /// Appends copies of the elements.
     pub fn extend_from_slice(&mut self, items: &[T]) -> Result<(), AllocError> {
         self.items
             .try_reserve(items.len())
@@ -115,6 +131,7 @@ impl<A: Allocator> io::Write for Vec<u8, A> {
 
 /// `to_vec(alloc)`.
 pub trait ToVecIn<T> {
+    /// Returns a vector of copies of the elements.
     fn to_vec_in(&self, alloc: Global) -> Result<Vec<T>, AllocError>;
 }
 
@@ -126,6 +143,7 @@ impl<T: Copy> ToVecIn<T> for [T] {
 
 /// `collect(alloc)`.
 pub trait CollectIn: Iterator + Sized {
+    /// Returns all elements.
     fn collect_in<C: FromIterIn<Self::Item>>(self, alloc: Global) -> Result<C, AllocError> {
         C::from_iter_in(self, alloc)
     }
@@ -133,7 +151,9 @@ pub trait CollectIn: Iterator + Sized {
 
 impl<I: Iterator> CollectIn for I {}
 
+/// What `collect(alloc)` returns.
 pub trait FromIterIn<T>: Sized {
+    /// Returns all elements.
     fn from_iter_in<I: Iterator<Item = T>>(items: I, alloc: Global) -> Result<Self, AllocError>;
 }
 

@@ -2,7 +2,6 @@
 //! Test doubles: readers and writers in memory that fail on demand or record their calls, and a
 //! sink that rejects a piece.
 mod refusing_sink;
-#[cfg(feature = "std")]
 pub mod streams;
 
 pub use refusing_sink::RefusingSink;

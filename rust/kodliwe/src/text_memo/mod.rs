@@ -2,8 +2,13 @@
 //! A memo, in bounded memory, for a function from texts to texts. It remembers the text for some
 //! keys.
 
-use crate::support::alloc::Global;
 use crate::support::vec::Vec;
+mod comparisons;
+
+use crate::support::alloc::Global;
+use comparisons::are_equal;
+#[cfg(all(test, feature = "stream"))]
+use core::mem;
 
 #[cfg(test)]
 mod tests;
@@ -11,7 +16,7 @@ mod tests;
 /// The number of pairs of entries. The hash of a key chooses its pair.
 const PAIRS: usize = 8192;
 
-/// The number of slots for the fingerprints of keys.
+/// The number of slots for the fingerprints of keys, and of those for the keys of long texts.
 const FINGERPRINTS: usize = 8192;
 
 /// The longest key of an entry.
@@ -44,7 +49,7 @@ struct Pair {
     older: Entry,
 }
 
-/// A free entry. It has an empty key, which no other entry has.
+/// A free entry. It has an empty key and an even fingerprint, which no other entry has.
 const NO_ENTRY: Entry = Entry {
     start: 0,
     key_len: 0,
@@ -73,12 +78,14 @@ pub enum Noted {
 pub struct TextMemo {
     pairs: Vec<Pair>,
     bytes: Vec<u8>,
-    /// A fingerprint is even if its key was noted once, and odd if its key's text is too long.
-    fingerprints: Vec<u32>,
+    /// The fingerprint of the last key that was noted in each slot.
+    noted: Vec<u32>,
+    /// The fingerprint of the last key in each slot whose text is too long.
+    too_long: Vec<u32>,
 }
 
 /// Returns a hash with sixteen bytes mixed in.
-#[inline(always)]
+#[cfg_attr(not(debug_assertions), inline(always))]
 fn mixed(hash: u64, bytes: u128) -> u64 {
     let low = (bytes % 18_446_744_073_709_551_616) as u64 ^ hash;
     let high = (bytes / 18_446_744_073_709_551_616) as u64 ^ 0x9E37_79B9_7F4A_7C15;
@@ -88,7 +95,7 @@ fn mixed(hash: u64, bytes: u128) -> u64 {
 }
 
 /// Returns a hash of a key. Different keys may have the same hash.
-#[inline(always)]
+#[cfg_attr(not(debug_assertions), inline(always))]
 pub fn hash_of(key: &[u8]) -> u64 {
     let mut hash = 0;
     for group in key.chunks_exact(16) {
@@ -104,21 +111,31 @@ pub fn hash_of(key: &[u8]) -> u64 {
 }
 
 /// Returns the index of a key's pair.
-#[inline(always)]
+#[cfg_attr(not(debug_assertions), inline(always))]
 fn pair_place(hash: u64) -> usize {
     ((hash / 4_294_967_296) % 8192) as usize
 }
 
 /// Returns the index of a key's fingerprint.
-#[inline(always)]
+#[cfg_attr(not(debug_assertions), inline(always))]
 fn fingerprint_place(hash: u64) -> usize {
     ((hash / 1_099_511_627_776) % 8192) as usize
 }
 
-/// Returns a key's fingerprint, which is even.
-#[inline(always)]
+/// Returns a key's fingerprint, which is odd.
+#[cfg_attr(not(debug_assertions), inline(always))]
 fn fingerprint_of(hash: u64) -> u32 {
-    (hash % 4_294_967_296) as u32 & 0xFFFF_FFFE
+    (hash % 4_294_967_296) as u32 | 1
+}
+
+/// Fills a vector with zeros if it is empty. It stays empty if memory can't be allocated, or if `Vec`
+/// allocates more than it needs.
+#[inline(never)]
+fn fill(fingerprints: &mut Vec<u32>) {
+    if fingerprints.resize(FINGERPRINTS, 0).is_err() || fingerprints.capacity() > FINGERPRINTS {
+        fingerprints.clear();
+        fingerprints.shrink_to_fit();
+    }
 }
 
 impl TextMemo {
@@ -127,12 +144,27 @@ impl TextMemo {
         TextMemo {
             pairs: Vec::new(alloc),
             bytes: Vec::new(alloc),
-            fingerprints: Vec::new(alloc),
+            noted: Vec::new(alloc),
+            too_long: Vec::new(alloc),
         }
     }
 
-    /// Returns the text of an entry, or `None` if the entry has another key.
-    #[inline(always)]
+    /// Returns the number of bytes that the memo has allocated, which is at most 4.5 MB.
+    #[cfg(all(test, feature = "stream"))]
+    pub fn allocated(&self) -> usize {
+        let fingerprints = self
+            .noted
+            .capacity()
+            .saturating_add(self.too_long.capacity());
+        let pairs = self.pairs.capacity().saturating_mul(mem::size_of::<Pair>());
+        pairs
+            .saturating_add(fingerprints.saturating_mul(mem::size_of::<u32>()))
+            .saturating_add(self.bytes.capacity())
+    }
+
+    /// Returns the text of an entry, or `None` if the entry has another key. Compares at most one
+    /// key.
+    #[cfg_attr(not(debug_assertions), inline(always))]
     fn text_at(&self, entry: &Entry, key: &[u8], fingerprint: u32) -> Option<&[u8]> {
         if entry.fingerprint != fingerprint || entry.key_len as usize != key.len() {
             return None;
@@ -145,7 +177,7 @@ impl TextMemo {
             return None;
         }
         // Two keys may have the same fingerprint and length.
-        if &bytes[start..middle] == key {
+        if are_equal(&bytes[start..middle], key) {
             Some(&bytes[middle..end])
         } else {
             None
@@ -153,7 +185,8 @@ impl TextMemo {
     }
 
     /// Returns the text of a key, or `None` if the memo has no entry for it. `hash` is the key's.
-    #[inline(always)]
+    /// Compares at most two keys.
+    #[cfg_attr(not(debug_assertions), inline(always))]
     pub fn get(&self, key: &[u8], hash: u64) -> Option<&[u8]> {
         let place = pair_place(hash);
         if place >= self.pairs.len() {
@@ -169,45 +202,52 @@ impl TextMemo {
 
     /// Notes a key, and returns how it was noted before. So a caller can leave out keys that come
     /// once. `hash` is the key's.
-    #[inline(always)]
+    ///
+    /// Any key replaces the fingerprint of another one in its slot. Those of long texts are apart,
+    /// so each of them is replaced only by another one.
+    #[cfg_attr(not(debug_assertions), inline(always))]
     pub fn note(&mut self, hash: u64) -> Noted {
+        if self.noted.is_empty() {
+            fill(&mut self.noted);
+        }
         let place = fingerprint_place(hash);
-        if self.fingerprints.is_empty() && self.fingerprints.resize(FINGERPRINTS, 0).is_err() {
+        if place >= self.noted.len() {
             return Noted::New;
         }
-        if place >= self.fingerprints.len() {
+        let fingerprint = fingerprint_of(hash);
+        if self.noted[place] != fingerprint {
+            self.noted[place] = fingerprint;
             return Noted::New;
         }
-        let noted = self.fingerprints[place];
-        if noted & 0xFFFF_FFFE == fingerprint_of(hash) {
-            return if noted & 1 == 0 {
-                Noted::Again
-            } else {
-                Noted::TooLong
-            };
+        if self.too_long.get(place) == Some(&fingerprint) {
+            Noted::TooLong
+        } else {
+            Noted::Again
         }
-        // The fingerprint of a long text stays. So a caller prints such a text in vain at most once
-        // for each slot.
-        if noted & 1 == 0 {
-            self.fingerprints[place] = fingerprint_of(hash);
-        }
-        Noted::New
     }
 
     /// Notes that a key's text is too long for an entry. `hash` is the key's.
     pub fn note_too_long(&mut self, hash: u64) {
-        let place = fingerprint_place(hash);
-        if place < self.fingerprints.len() {
-            self.fingerprints[place] = fingerprint_of(hash) | 1;
+        if self.too_long.is_empty() {
+            fill(&mut self.too_long);
         }
+        let place = fingerprint_place(hash);
+        if place < self.too_long.len() {
+            self.too_long[place] = fingerprint_of(hash);
+        }
+    }
+
+    /// Removes all entries.
+    fn clear(&mut self) {
+        self.pairs.clear();
+        self.bytes.clear();
     }
 
     /// Makes room for an entry of `len` bytes, or returns `false` if memory can't be allocated. All
     /// entries are removed if there would be too many bytes.
     fn make_room(&mut self, len: usize) -> bool {
         if self.bytes.len() > MAX_BYTES - len {
-            self.pairs.clear();
-            self.bytes.clear();
+            self.clear();
         }
         if self.bytes.capacity() == 0 && self.bytes.reserve_exact(FIRST_BYTES).is_err() {
             return false;
@@ -232,15 +272,8 @@ impl TextMemo {
         }
     }
 
-    /// Remembers the text of a key, and may remove older entries for it. `hash` is the key's.
-    ///
-    /// It changes no result of `get` if the key or the text is too long, or if memory can't be
-    /// allocated.
-    #[inline(never)]
-    pub fn insert(&mut self, key: &[u8], text: &[u8], hash: u64) {
-        if key.len() > MAX_KEY || text.len() > MAX_TEXT {
-            return;
-        }
+    /// Adds an entry for a key and its text, if memory can be allocated. `hash` is the key's.
+    fn add(&mut self, key: &[u8], text: &[u8], hash: u64) {
         if !self.make_room(key.len() + text.len()) {
             return;
         }
@@ -255,5 +288,26 @@ impl TextMemo {
             fingerprint: fingerprint_of(hash),
         };
         self.put(entry, pair_place(hash));
+    }
+
+    /// Frees the memory of all entries if `Vec` allocated more than they need.
+    fn free_excess(&mut self) {
+        if self.pairs.capacity() > PAIRS || self.bytes.capacity() > MAX_BYTES {
+            self.clear();
+            self.pairs.shrink_to_fit();
+            self.bytes.shrink_to_fit();
+        }
+    }
+
+    /// Remembers the text of a key, and may remove older entries for it. `hash` is the key's.
+    ///
+    /// It changes no result of `get` if the key or the text is too long, or if memory can't be
+    /// allocated.
+    #[inline(never)]
+    pub fn insert(&mut self, key: &[u8], text: &[u8], hash: u64) {
+        if key.len() <= MAX_KEY && text.len() <= MAX_TEXT {
+            self.add(key, text, hash);
+            self.free_excess();
+        }
     }
 }

@@ -1,7 +1,7 @@
 use Rattle.std.proofs.Common.{IfSome, map, subst, sym}
 use Rattle.std.specs.String.{string_bytes}
 use Rattle.kodliwe.specs.CommandLine.{ParsesTo, anything, defaults, options_of}
-use Rattle.kodliwe.proofs.ArgumentLemmas.{ends_there, lacks_there, arguments_left}
+use Rattle.kodliwe.proofs.ArgumentLemmas.{ends_there, lacks_there, lacks_shell, arguments_left}
 use Rattle.kodliwe.proofs.arguments.parse_arguments.Goals as goal
 
 pub returns-in-Anything : goal.returns-in-Anything
@@ -10,7 +10,11 @@ returns-in-Anything c = record {
   refused = tt;
 }
 
-pub returns-clause-refused : goal.returns-clause-refused
-returns-clause-refused c =
+pub returns-in-Value-clause-refused : goal.returns-in-Value-clause-refused
+returns-in-Value-clause-refused c =
     let refused = c.loop-argument.invariant _ (lacks_there c.loop-argument.next (options_of c.loop-argument.request) _ c.in-Value.option c.in-Value.argument (arguments_left string_bytes c.args.arguments.now _ c.loop-argument-test.false) c.in-Value.is) in
     subst (λ o. IfSome o (λ answer. ParsesTo anything defaults (map string_bytes c.args.arguments.now) answer)) (sym c.missing_value.ensures) refused
+
+pub returns-clause-refused : goal.returns-clause-refused
+returns-clause-refused c =
+    c.loop-argument.invariant _ (lacks_shell c.loop-argument.next (options_of c.loop-argument.request) _ (arguments_left string_bytes c.args.arguments.now _ c.loop-argument-test.false) c.in-Shell.is)

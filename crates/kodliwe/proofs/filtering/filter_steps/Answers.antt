@@ -15,7 +15,7 @@ returns-in_err-flush_then_step-clause-err g c =
     rw (p.1, p.2) (turning_err _ _ _ _ _ _ _ _ c.loop.invariant.0 (refused_same c.loop.memo c.args.memo.now _ _ _ _ _ c.loop.invariant.1 c.in_err-flush_then_step.ensures.refused))
 
 pub returns-then-not-branch-clause-ok : goal.returns-then-not-branch-clause-ok
-returns-then-not-branch-clause-ok g c = wrote_end _ _ _ _ _ (passing_end _ _ _ _ _ _ _ _ _ c.loop.invariant.0 (ended_same c.loop.memo c.args.memo.now _ _ _ _ _ _ c.loop.invariant.1 (c.in_ok-flush_then_step.ensures.ended (ap Ok c.if-not-branch.true))))
+returns-then-not-branch-clause-ok g c = wrote_end _ _ _ _ _ (passing_end _ _ c.loop.filter c.flush_then_step.new.filter _ _ _ _ _ c.loop.invariant.0 (ended_same c.loop.memo c.args.memo.now c.loop.filter c.flush_then_step.new.filter _ _ _ _ c.loop.invariant.1 (c.in_ok-flush_then_step.ensures.ended (ap Ok c.if-not-branch.true))))
 
 pub loop-preserved : goal.loop-preserved
 loop-preserved g c = (

@@ -11,7 +11,7 @@ pub returns-clause-took : goal.returns-clause-took
 returns-clause-took g c = λ e. took_later _ _ _ _ _ _ _ _ c.flush_pending.ensures.bytes (c.step.ensures.took e)
 
 pub returns-clause-ended : goal.returns-clause-ended
-returns-clause-ended g c = λ e. ended_later _ _ _ _ _ _ _ _ c.flush_pending.ensures.bytes (c.step.ensures.ended e)
+returns-clause-ended g c = λ e. ended_later _ c.args.filter.now c.step.new.filter _ _ _ _ _ c.flush_pending.ensures.bytes (c.step.ensures.ended e)
 
 pub returns-clause-refused : goal.returns-clause-refused
 returns-clause-refused g c = turn_refused _ _ _ _ _ _ _ _ _ c.flush_pending.ensures.bytes c.step.ensures.refused

@@ -1,9 +1,9 @@
 use Rattle.std.proofs.Common.{rules}
-use Rattle.rustc_demangle.specs.Filtered.{replacement_in}
+use Rattle.rustc_demangle.specs.Rewritten.{replacement_after}
 use Rattle.kodliwe.proofs.FilteringLemmas.{took_refused}
 use Rattle.kodliwe.proofs.filtering.step.Goals as goal
 
 pub returns-in-Err-Read-clause-took : goal.returns-in-Err-Read-clause-took
 returns-in-Err-Read-clause-took g c = λ e.
-    took_refused c.step.result c.in-Err-Read.error (replacement_in c.args.memo.now) c.args.filter.now c.step.new.self (g.R.Read.remaining c.args.input.now) (g.R.Read.remaining c.step.new.input)
+    took_refused c.step.result c.in-Err-Read.error (replacement_after c.args.memo.now) c.args.filter.now c.step.new.self (g.R.Read.remaining c.args.input.now) (g.R.Read.remaining c.step.new.input)
     (g.W.Write.contents c.args.output.now) (g.W.Write.contents c.step.new.output) (search rules) c.step.ensures.refused

@@ -1,49 +1,71 @@
-use Rattle.std.proofs.Common.{◌≤◌, length, Ok, Err, refl, sym, ap, subst, ◌∙◌}
-use Rattle.std.specs.List.{list_all}
+use Rattle.std.proofs.Common.{◌≤◌, length, Ok, Err, refl, sym, ap, subst, arith, length-drop}
 use Rattle.std.proofs.lemmas.List.Sums.{prefix_len-le-length}
 use Rattle.demangle_sink.specs.contracts.slice_sink.SliceSinkTextSink.TheImpl.{ghosts}
 use Rattle.rustc_demangle.specs.Filtered.{is_run_byte}
-use Rattle.rustc_demangle.proofs.ByteStreamLemmas.{all_cut}
-use Rattle.rustc_demangle.proofs.PieceLemmas.{feeding_step, feeding_kept, feeding_run, feeding_end}
-use Rattle.rustc_demangle.proofs.SliceLemmas.{slice_writes, slice_puts}
+use Rattle.rustc_demangle.specs.Rewritten.{replacement_after}
+use Rattle.rustc_demangle.specs.declared.byte_before.ByteBefore.TheVariants.{Outside}
+use Rattle.rustc_demangle.proofs.RunStarts.{all_cut}
+use Rattle.rustc_demangle.proofs.ByteStreamLemmas.{found_some}
+use Rattle.rustc_demangle.proofs.SliceLemmas.{slice_puts, slice_text, slice_fits, rewriting_step, rewriting_kept, rewriting_run, rewriting_end}
 use Rattle.rustc_demangle.proofs.slice.put_slice.Goals as goal
 
 pub split_at-requires-in-Some : goal.split_at-requires-in-Some
 split_at-requires-in-Some c =
     subst (λ n. n ≤ length c.split_at.result.1.now) (sym c.run_len.ensures) (prefix_len-le-length is_run_byte c.split_at.result.1.now)
 
+pub put_candidate-requires-clause-run : goal.put_candidate-requires-clause-run
+put_candidate-requires-clause-run c = all_cut _ _ _ _ refl c.run_len.ensures c.split_at-in-Some.ensures.front
+
 pub returns-in_err-put_bytes : goal.returns-in_err-put_bytes
-returns-in_err-put_bytes c =
-    slice_writes _ _ _ _
-    (feeding_kept ghosts _ _ _ _ _ _ _ _ _ _ _ _ _ _ _ _ c.loop-start.invariant
-    (refl, c.in-Some.ensures.some, c.split_at.ensures.front, c.split_at.ensures.back, refl, c.run_len.ensures, c.split_at-in-Some.ensures.front, c.split_at-in-Some.ensures.back)
-    (slice_puts _ _ (Err (record {})) _ c.in_err-put_bytes.ensures.taken c.in_err-put_bytes.ensures.not_failed c.in_err-put_bytes.ensures.refused c.in_err-put_bytes.ensures.kept c.in_err-put_bytes.ensures.fits)
-    refl c.from_residual.ensures.0)
+returns-in_err-put_bytes c = record {
+  text = slice_text _ _ _ _ (rewriting_kept ghosts (replacement_after c.args.format) _ _ _ _ _ _ _ _ _ _ _ _ _ _ c.loop-start.invariant
+      (c.in-Some.ensures.some, c.plain_len.ensures, c.split_at.ensures.front, c.split_at.ensures.back, c.run_len.ensures, c.split_at-in-Some.ensures.front, c.split_at-in-Some.ensures.back)
+      (slice_puts c.loop-start.out c.split_at.result.0.now (Err (record {})) c.put_bytes.new.self c.in_err-put_bytes.ensures.taken c.in_err-put_bytes.ensures.not_failed c.in_err-put_bytes.ensures.refused c.in_err-put_bytes.ensures.kept c.in_err-put_bytes.ensures.fits)
+      refl c.from_residual.ensures.0);
+  fits = slice_fits _ _ _ _ (rewriting_kept ghosts (replacement_after c.args.format) _ _ _ _ _ _ _ _ _ _ _ _ _ _ c.loop-start.invariant
+      (c.in-Some.ensures.some, c.plain_len.ensures, c.split_at.ensures.front, c.split_at.ensures.back, c.run_len.ensures, c.split_at-in-Some.ensures.front, c.split_at-in-Some.ensures.back)
+      (slice_puts c.loop-start.out c.split_at.result.0.now (Err (record {})) c.put_bytes.new.self c.in_err-put_bytes.ensures.taken c.in_err-put_bytes.ensures.not_failed c.in_err-put_bytes.ensures.refused c.in_err-put_bytes.ensures.kept c.in_err-put_bytes.ensures.fits)
+      refl c.from_residual.ensures.0);
+}
 
-pub run_text-requires : goal.run_text-requires
-run_text-requires c = all_cut _ _ _ _ refl c.run_len.ensures c.split_at-in-Some.ensures.front
+pub returns-in_err-put_candidate : goal.returns-in_err-put_candidate
+returns-in_err-put_candidate c = record {
+  text = slice_text _ _ _ _ (rewriting_run ghosts (replacement_after c.args.format) _ _ _ _ _ _ _ _ _ _ _ _ _ _ _ _ _ c.loop-start.invariant
+      (c.in-Some.ensures.some, c.plain_len.ensures, c.split_at.ensures.front, c.split_at.ensures.back, c.run_len.ensures, c.split_at-in-Some.ensures.front, c.split_at-in-Some.ensures.back) c.after.ensures
+      (slice_puts c.loop-start.out c.split_at.result.0.now (Ok tt) c.put_bytes.new.self c.in_ok-put_bytes.ensures.taken c.in_ok-put_bytes.ensures.not_failed c.in_ok-put_bytes.ensures.refused c.in_ok-put_bytes.ensures.kept c.in_ok-put_bytes.ensures.fits)
+      refl c.in_err-put_candidate.ensures refl c.from_residual-in_err-put_candidate.ensures.0);
+  fits = slice_fits _ _ _ _ (rewriting_run ghosts (replacement_after c.args.format) _ _ _ _ _ _ _ _ _ _ _ _ _ _ _ _ _ c.loop-start.invariant
+      (c.in-Some.ensures.some, c.plain_len.ensures, c.split_at.ensures.front, c.split_at.ensures.back, c.run_len.ensures, c.split_at-in-Some.ensures.front, c.split_at-in-Some.ensures.back) c.after.ensures
+      (slice_puts c.loop-start.out c.split_at.result.0.now (Ok tt) c.put_bytes.new.self c.in_ok-put_bytes.ensures.taken c.in_ok-put_bytes.ensures.not_failed c.in_ok-put_bytes.ensures.refused c.in_ok-put_bytes.ensures.kept c.in_ok-put_bytes.ensures.fits)
+      refl c.in_err-put_candidate.ensures refl c.from_residual-in_err-put_candidate.ensures.0);
+}
 
-pub put_run_first-requires-clause-run : goal.put_run_first-requires-clause-run
-put_run_first-requires-clause-run c = ap (list_all is_run_byte) c.run_text.ensures ∙ all_cut _ _ _ _ refl c.run_len.ensures c.split_at-in-Some.ensures.front
-
-pub returns-in_err-put_run_first : goal.returns-in_err-put_run_first
-returns-in_err-put_run_first c =
-    slice_writes _ _ _ _
-    (feeding_run ghosts _ _ _ _ _ _ _ c.run_text.result.now _ _ _ _ _ _ _ _ _ _ c.loop-start.invariant
-    (refl, c.in-Some.ensures.some, c.split_at.ensures.front, c.split_at.ensures.back, refl, c.run_len.ensures, c.run_text.ensures ∙ c.split_at-in-Some.ensures.front, c.split_at-in-Some.ensures.back)
-    (slice_puts _ _ (Ok tt) _ c.in_ok-put_bytes.ensures.taken c.in_ok-put_bytes.ensures.not_failed c.in_ok-put_bytes.ensures.refused c.in_ok-put_bytes.ensures.kept c.in_ok-put_bytes.ensures.fits)
-    refl c.in_err-put_run_first.ensures refl c.from_residual-in_err-put_run_first.ensures.0)
+pub loop-start-smaller : goal.loop-start-smaller
+loop-start-smaller c =
+    let some = found_some Outside c.loop-start.rest.now c.split_at.result.1.now c.in-Some.start c.plain_len.result c.split_at.ensures.back (omega (arith, c.in-Some.ensures.some.0)) c.plain_len.ensures c.in-Some.ensures.some.1 in
+    omega (
+      arith,
+      some.0,
+      some.1,
+      c.run_len.ensures,
+      ap length c.split_at.ensures.back,
+      length-drop c.plain_len.result c.loop-start.rest.now,
+      ap length c.split_at-in-Some.ensures.back,
+      length-drop c.run_len.result c.split_at.result.1.now,
+    )
 
 pub loop-start-preserved : goal.loop-start-preserved
 loop-start-preserved c =
-    feeding_step ghosts _ _ _ _ _ _ _ c.run_text.result.now _ _ _ _ _ _ _ _ _ c.loop-start.invariant
-    (refl, c.in-Some.ensures.some, c.split_at.ensures.front, c.split_at.ensures.back, refl, c.run_len.ensures, c.run_text.ensures ∙ c.split_at-in-Some.ensures.front, c.split_at-in-Some.ensures.back)
-    (slice_puts _ _ (Ok tt) _ c.in_ok-put_bytes.ensures.taken c.in_ok-put_bytes.ensures.not_failed c.in_ok-put_bytes.ensures.refused c.in_ok-put_bytes.ensures.kept c.in_ok-put_bytes.ensures.fits)
-    refl c.in_ok-put_run_first.ensures refl
+    rewriting_step ghosts (replacement_after c.args.format) _ _ _ _ _ _ _ _ _ _ _ _ _ _ _ _ c.loop-start.invariant
+    (c.in-Some.ensures.some, c.plain_len.ensures, c.split_at.ensures.front, c.split_at.ensures.back, c.run_len.ensures, c.split_at-in-Some.ensures.front, c.split_at-in-Some.ensures.back) c.after.ensures
+    (slice_puts c.loop-start.out c.split_at.result.0.now (Ok tt) c.put_bytes.new.self c.in_ok-put_bytes.ensures.taken c.in_ok-put_bytes.ensures.not_failed c.in_ok-put_bytes.ensures.refused c.in_ok-put_bytes.ensures.kept c.in_ok-put_bytes.ensures.fits)
+    refl c.in_ok-put_candidate.ensures refl
 
 pub returns : goal.returns
 returns c =
-    let e = c.put_bytes-2.ensures in
-    slice_writes _ _ _ _
-    (feeding_end ghosts _ _ _ _ _ _ _ _ c.loop-start.invariant refl c.in_default.ensures.none
-    (slice_puts _ _ _ _ e.taken e.not_failed e.refused e.kept e.fits))
+    let e = c.put_bytes-2.ensures in record {
+      text = slice_text _ _ _ _ (rewriting_end ghosts (replacement_after c.args.format) _ _ _ _ _ _ c.loop-start.invariant c.in_default.ensures.none
+          (slice_puts c.loop-start.out c.loop-start.rest.now c.put_bytes-2.result c.put_bytes-2.new.self e.taken e.not_failed e.refused e.kept e.fits));
+      fits = slice_fits _ _ _ _ (rewriting_end ghosts (replacement_after c.args.format) _ _ _ _ _ _ c.loop-start.invariant c.in_default.ensures.none
+          (slice_puts c.loop-start.out c.loop-start.rest.now c.put_bytes-2.result c.put_bytes-2.new.self e.taken e.not_failed e.refused e.kept e.fits));
+    }

@@ -1,16 +1,4 @@
-use Rattle.std.proofs.Common.{rules, refl, length}
-use Rattle.text_memo.proofs.Entries.{new_entry}
 use Rattle.text_memo.proofs.TextMemo.insert.Goals as goal
 
-pub returns-then-not-make_room : goal.returns-then-not-make_room
-returns-then-not-make_room c = λ text_for remembers same. c.make_room.ensures.kept text_for remembers
-
-pub returns-then-not-append : goal.returns-then-not-append
-returns-then-not-append c = λ text_for remembers same. c.append.ensures.kept text_for (c.make_room.ensures.kept text_for remembers)
-
-pub returns : goal.returns
-returns c = λ text_for remembers same.
-    c.put.ensures text_for (c.append.ensures.kept text_for (c.make_room.ensures.kept text_for remembers))
-    (new_entry text_for c.make_room.new.self.bytes.items c.args.key.now c.args.text.now c.append.new.self.bytes.items
-    (record { start = c.len-start.result; key_len = length c.args.key.now; text_len = length c.args.text.now; fingerprint = c.fingerprint_of.result })
-    (c.append.ensures.appended c.if-not-append.false) (search rules) refl refl same)
+pub returns-then-text-le-MAX_TEXT-clause-remembers : goal.returns-then-text-le-MAX_TEXT-clause-remembers
+returns-then-text-le-MAX_TEXT-clause-remembers c = λ text_for remembers same. c.free_excess.ensures.remembers text_for (c.add.ensures.remembers text_for remembers same)

@@ -10,17 +10,30 @@
 //! assert_eq!(format!("{symbol:#}"), "foo::bar");
 //! ```
 //!
-//! [`demangle_text`] and [`demangle_slice`] demangle each symbol of a text in memory;
-//! `demangle_stream` and `demangle_bytes` do so from a reader to a writer.
+//! [`FmtSink`] writes into a `String` or any other [`core::fmt::Write`], in any [`Format`]:
 //!
-//! Reading and printing a symbol allocates nothing, and takes time in proportion to the symbol and
-//! its printed path. Only streams allocate: they buffer one line, or one symbol, and
-//! `demangle_bytes` remembers the paths of symbols, in at most 4.5 MB.
+//! ```
+//! use kodliwe::{FmtSink, Format, demangle};
+//!
+//! let format = Format::new().with_folded_arguments(true);
+//! let mut path = String::new();
+//! demangle("_RINvC3foo3barhE").write_formatted(&mut FmtSink::new(&mut path), format)?;
+//! assert_eq!(path, "foo::bar::<_>");
+//! # Ok::<(), kodliwe::SinkRefused>(())
+//! ```
+//!
+//! [`demangle_text`] and [`demangle_slice`] demangle each symbol of a text in memory.
+//!
+//! Reading and printing a symbol allocates nothing. Reading takes time in proportion to the symbol.
+//! Printing takes at most time in proportion to the product of its length and that of the printed
+//! path. So a limit of the path bounds the time for a symbol that is made to be costly.
 //!
 //! # Features
 //!
-//! `std`, which is on by default, adds the streams and `WriteSink`. Without it the crate is
-//! `no_std` and needs no allocator.
+//! - `std`, which is on by default, adds `WriteSink`. Without it the crate is `no_std`.
+//! - `stream`, which is off by default, adds `demangle_stream`, `demangle_bytes` and `BytesFilter`,
+//!   which filter a reader into a writer. They alone allocate: they buffer one line, or one symbol,
+//!   and `demangle_bytes` remembers the paths of symbols, in at most 4.5 MB.
 //!
 //! # Where it comes from
 //!
@@ -33,21 +46,20 @@
 #![warn(missing_docs)]
 
 // MODULES
-// It has the interface of the kit's library.
+mod format;
 #[doc(hidden)]
-#[allow(clippy::len_without_is_empty, clippy::new_without_default, clippy::result_unit_err)]
-pub mod support;
-
-#[cfg(feature = "std")]
+pub mod internal;
+#[cfg(feature = "stream")]
 mod streams;
+mod support;
 mod symbols;
 mod traits;
 
-pub use demangle_sink::{ArraySink, SinkRefused, SliceSink, TextSink};
+pub use demangle_sink::{ArraySink, FmtSink, SinkRefused, SliceSink, TextSink};
 #[cfg(feature = "std")]
 pub use demangle_sink::WriteSink;
-pub use rustc_demangle::Format;
-#[cfg(feature = "std")]
+pub use format::Format;
+#[cfg(feature = "stream")]
 pub use streams::{
     BytesFilter, StreamFault, demangle_bytes, demangle_bytes_formatted, demangle_bytes_limited,
     demangle_stream, demangle_stream_named,

@@ -1,6 +1,7 @@
 //! Filters what a reader has into a writer.
-use crate::MAX_SIZE;
-use crate::rustc_demangle::{self, Format};
+use crate::{Format, MAX_SIZE};
+use crate::piece_buffer::PieceBuffer;
+use crate::rustc_demangle;
 use crate::support::alloc::Global;
 use std::io::{self, BufRead, Write};
 use std::{error, fmt};
@@ -50,7 +51,8 @@ pub fn demangle_stream_named<R: BufRead, W: Write>(
 /// Copies any bytes from `input` to `output`, with each Rust symbol demangled.
 ///
 /// It does not wait for the end of a line. It writes what the reader makes available at once,
-/// except a symbol that may continue.
+/// except a symbol that may continue. A symbol directly after an ASCII letter or digit stays, as in
+/// `v1.0_RC0`. A path also replaces the single `_` that macOS writes before a symbol.
 ///
 /// # Errors
 ///
@@ -94,7 +96,7 @@ pub fn demangle_bytes_formatted<R: BufRead, W: Write>(
     output: &mut W,
     format: Format,
 ) -> Result<(), StreamFault> {
-    rustc_demangle::demangle_bytes_formatted(Global, input, output, format)
+    rustc_demangle::demangle_bytes_formatted(Global, input, output, format.inner())
 }
 
 /// A filter of any bytes that runs step by step, for readers that pause.
@@ -122,18 +124,14 @@ impl BytesFilter {
 
     /// Returns a filter as [`new`](BytesFilter::new) does, which cuts each path at `limit` bytes.
     pub fn with_limit(include_hash: bool, limit: usize) -> BytesFilter {
-        BytesFilter::with_format(Format {
-            include_hash,
-            fold_arguments: false,
-            limit,
-        })
+        BytesFilter::with_format(Format::new().with_hash(include_hash).with_limit(limit))
     }
 
     /// Returns a filter as [`new`](BytesFilter::new) does, which prints symbols in a format.
     pub fn with_format(format: Format) -> BytesFilter {
         BytesFilter {
             filter: rustc_demangle::BytesFilter::new(Global),
-            memo: rustc_demangle::SymbolMemo::with_format(Global, format),
+            memo: rustc_demangle::SymbolMemo::with_format(Global, format.inner()),
         }
     }
 
@@ -195,5 +193,11 @@ impl error::Error for StreamFault {
 impl From<StreamFault> for io::Error {
     fn from(fault: StreamFault) -> io::Error {
         fault.into_io()
+    }
+}
+
+impl Default for PieceBuffer {
+    fn default() -> PieceBuffer {
+        PieceBuffer::new()
     }
 }

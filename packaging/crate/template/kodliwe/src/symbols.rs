@@ -1,6 +1,7 @@
 //! Symbols, and texts in memory.
+use crate::Format;
 use crate::demangle_sink::{SinkRefused, TextSink};
-use crate::rustc_demangle::{self, Format};
+use crate::rustc_demangle;
 use core::fmt;
 
 /// A text, demangled if it is a Rust symbol.
@@ -17,6 +18,7 @@ use core::fmt;
 /// assert_eq!(format!("{symbol}"), "mio[1888792e1a78739]::poll");
 /// assert_eq!(format!("{symbol:#}"), "mio::poll");
 /// ```
+#[derive(Clone, Copy)]
 pub struct Demangle<'a>(rustc_demangle::Demangle<'a>);
 
 impl<'a> Demangle<'a> {
@@ -97,6 +99,28 @@ impl<'a> Demangle<'a> {
         limit: usize,
     ) -> Result<(), SinkRefused> {
         self.0.write_folded(out, include_hash, limit)
+    }
+
+    /// Writes the path to a sink in a format. A text that is not a symbol is written unchanged.
+    ///
+    /// # Errors
+    ///
+    /// Fails if the sink rejects a piece.
+    ///
+    /// ```
+    /// use kodliwe::Format;
+    ///
+    /// let mut path = kodliwe::ArraySink::<32>::new();
+    /// kodliwe::demangle("_ZN3foo3barE").write_formatted(&mut path, Format::new().with_limit(5))?;
+    /// assert_eq!(path.as_str(), "foo::{size limit reached}");
+    /// # Ok::<(), kodliwe::SinkRefused>(())
+    /// ```
+    pub fn write_formatted<S: TextSink>(
+        &self,
+        out: &mut S,
+        format: Format,
+    ) -> Result<(), SinkRefused> {
+        self.0.write_formatted(out, format.inner())
     }
 }
 
@@ -203,11 +227,7 @@ pub fn demangle_text_limited<S: TextSink>(
 /// Fails if the sink rejects a piece.
 ///
 /// ```
-/// let format = kodliwe::Format {
-///     include_hash: false,
-///     fold_arguments: true,
-///     limit: 1_000,
-/// };
+/// let format = kodliwe::Format::new().with_folded_arguments(true);
 /// let mut text = kodliwe::ArraySink::<32>::new();
 /// kodliwe::demangle_text_formatted("at _RINvC3foo3barhE:7", &mut text, format)?;
 /// assert_eq!(text.as_str(), "at foo::bar::<_>:7");
@@ -218,14 +238,16 @@ pub fn demangle_text_formatted<S: TextSink>(
     out: &mut S,
     format: Format,
 ) -> Result<(), SinkRefused> {
-    rustc_demangle::demangle_text_formatted(text, out, format)
+    rustc_demangle::demangle_text_formatted(text, out, format.inner())
 }
 
 /// Writes bytes to `out` with each Rust symbol in them demangled, as far as there is room. Returns
 /// the number of bytes of the complete text.
 ///
-/// The bytes need not be UTF-8. Symbols are found as by [`demangle_text`], and each path is cut at
-/// `limit` bytes. Returns `None` if the number exceeds `usize::MAX`.
+/// The bytes need not be UTF-8. Symbols are found as by `demangle_bytes`, and each path is cut at
+/// `limit` bytes: a symbol directly after an ASCII letter or digit stays, and a path also replaces
+/// the single `_` that macOS writes before a symbol. Returns `None` if the number exceeds
+/// `usize::MAX`.
 ///
 /// ```
 /// let mut out = [0; 8];
@@ -244,5 +266,5 @@ pub fn demangle_slice(
 
 /// Writes bytes to `out` as [`demangle_slice`] does, with each symbol printed in a format.
 pub fn demangle_slice_formatted(text: &[u8], out: &mut [u8], format: Format) -> Option<usize> {
-    rustc_demangle::demangle_slice_formatted(text, out, format)
+    rustc_demangle::demangle_slice_formatted(text, out, format.inner())
 }

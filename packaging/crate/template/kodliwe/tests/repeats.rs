@@ -1,7 +1,7 @@
 //! `demangle_bytes`, which remembers the paths of symbols, writes the same as `demangle_slice`,
 //! which remembers nothing. This holds for all chunks of the reader and for symbols that come
 //! repeatedly.
-#![cfg(feature = "std")]
+#![cfg(feature = "stream")]
 use std::io::{self, BufRead, Read};
 
 const SYMBOLS: [&str; 22] = [

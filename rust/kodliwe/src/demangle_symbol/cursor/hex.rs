@@ -1,7 +1,7 @@
 // Made from crates/demangle_symbol/src/cursor/hex.rt by packaging/crate/erase.py: edit that file instead.
 //! Reads the hexadecimal strings of a v0 symbol, and their numbers.
 
-use crate::demangle_symbol::cursor::{Looks, ParseError, Part, Symbol};
+use crate::demangle_symbol::cursor::{ParseError, Part, Symbol};
 
 /// The most nibbles that a number may have after its leading zeros.
 pub const MAX_NIBBLES: usize = 32;
@@ -13,13 +13,9 @@ impl<'s> Symbol<'s> {
     ///
     /// Returns `Invalid` if another byte, or the end, comes before the `_`.
     #[inline(never)]
-    pub fn hex_nibbles(
-        &self,
-        place: usize,
-        looks: &mut Looks,
-    ) -> Result<(Part, usize), ParseError> {
+    pub fn hex_nibbles(&self, place: usize) -> Result<(Part, usize), ParseError> {
         for at in place..self.len() {
-            let Some(byte) = self.byte(at, looks) else {
+            let Some(byte) = self.byte(at) else {
                 return Err(ParseError::Invalid);
             };
             if byte == b'_' {
@@ -37,9 +33,9 @@ impl<'s> Symbol<'s> {
     }
 
     /// Returns the place after the leading zeros of a part.
-    fn after_zeros(&self, part: Part, looks: &mut Looks) -> usize {
+    fn after_zeros(&self, part: Part) -> usize {
         for at in part.from..part.to {
-            if !self.is_at(b'0', at, looks) {
+            if !self.is_at(b'0', at) {
                 return at;
             }
         }
@@ -49,20 +45,16 @@ impl<'s> Symbol<'s> {
     /// Returns the number that the nibbles of a hexadecimal string spell. Returns `None` if more
     /// than 32 nibbles follow the leading zeros.
     #[inline(never)]
-    pub fn hex_number(&self, nibbles: Part, looks: &mut Looks) -> Option<u128> {
+    pub fn hex_number(&self, nibbles: Part) -> Option<u128> {
         // Leading zeros have no value, so a number may have any number of them.
-        let start = self.after_zeros(nibbles, looks);
+        let start = self.after_zeros(nibbles);
         if nibbles.to - start > MAX_NIBBLES {
             return None;
         }
         let mut number: u128 = 0;
         for at in start..nibbles.to {
-            let Some(byte) = self.byte(at, looks) else {
-                return None;
-            };
-            let Some(digit) = nibble_of(byte) else {
-                return None;
-            };
+            let byte = self.byte(at)?;
+            let digit = nibble_of(byte)?;
             number = number * 16 + u128::from(digit);
         }
         Some(number)

@@ -1,7 +1,7 @@
 // Made from crates/demangle_symbol/src/cursor/ident.rt by packaging/crate/erase.py: edit that file instead.
 //! Reads the identifiers of a v0 symbol.
 
-use crate::demangle_symbol::cursor::{Looks, ParseError, Part, Symbol};
+use crate::demangle_symbol::cursor::{ParseError, Part, Symbol};
 
 /// The two parts of a name. A name without Punycode has an empty Punycode part.
 #[derive(Clone, Copy, Debug, PartialEq, Eq)]
@@ -12,32 +12,20 @@ pub struct Ident {
 
 impl<'s> Symbol<'s> {
     /// Reads the length of an identifier and returns it with the place after its digits.
-    #[inline(always)]
-    fn length(&self, place: usize, looks: &mut Looks) -> Result<(usize, usize), ParseError> {
+    #[cfg_attr(not(debug_assertions), inline(always))]
+    fn length(&self, place: usize) -> Result<(usize, usize), ParseError> {
         // The grammar has no leading zeros. So a first `0` is the whole length, and digits after it
         // belong to the name.
-        if self.is_at(b'0', place, looks) {
+        if self.is_at(b'0', place) {
             return Ok((0, place + 1));
         }
-        let Some(first) = self.digit(place, looks) else {
-            return Err(ParseError::Invalid);
-        };
-        // Most names have fewer than 100 bytes, so two digits are read without a loop.
-        let one = usize::from(first);
-        let Some(second) = self.digit(place + 1, looks) else {
-            return Ok((one, place + 1));
-        };
-        let two = one * 10 + usize::from(second);
-        let Some(third) = self.digit(place + 2, looks) else {
-            return Ok((two, place + 2));
-        };
-        self.decimal_from(two * 10 + usize::from(third), place, place + 3, looks)
+        self.decimal(place)
     }
 
     /// Returns the place after the last `_` of a part, or the start of the part if it has no `_`.
-    fn tail(&self, from: usize, to: usize, looks: &mut Looks) -> usize {
+    fn tail(&self, from: usize, to: usize) -> usize {
         for at in (from..to).rev() {
-            if self.is_at(b'_', at, looks) {
+            if self.is_at(b'_', at) {
                 return at + 1;
             }
         }
@@ -50,15 +38,15 @@ impl<'s> Symbol<'s> {
     ///
     /// Returns `Invalid` if there is no length, if the length exceeds the symbol, or if a `u` is
     /// present and its Punycode part is empty.
-    #[inline(always)]
-    pub fn ident(&self, place: usize, looks: &mut Looks) -> Result<(Ident, usize), ParseError> {
-        if self.is_at(b'u', place, looks) {
-            return self.punycode_copy(place, looks);
+    #[cfg_attr(not(debug_assertions), inline(always))]
+    pub fn ident(&self, place: usize) -> Result<(Ident, usize), ParseError> {
+        if self.is_at(b'u', place) {
+            return self.punycode_copy(place);
         }
-        let Ok((len, digits_end)) = self.length(place, looks) else {
+        let Ok((len, digits_end)) = self.length(place) else {
             return Err(ParseError::Invalid);
         };
-        let from = self.skip(b'_', digits_end, looks);
+        let from = self.skip(b'_', digits_end);
         if self.len() - from < len {
             return Err(ParseError::Invalid);
         }
@@ -74,9 +62,9 @@ impl<'s> Symbol<'s> {
     /// The `u` was looked at before. Returns `Invalid` if no identifier is spelled there.
     // The copy frees other names from the memory to which that call writes its result. The function
     // is separate since that memory is cleared at its start.
-    #[inline(always)]
-    fn punycode_copy(&self, place: usize, looks: &mut Looks) -> Result<(Ident, usize), ParseError> {
-        let Ok((name, to)) = self.punycode_ident(place, looks) else {
+    #[cfg_attr(not(debug_assertions), inline(always))]
+    fn punycode_copy(&self, place: usize) -> Result<(Ident, usize), ParseError> {
+        let Ok((name, to)) = self.punycode_ident(place) else {
             return Err(ParseError::Invalid);
         };
         let copy = Ident {
@@ -90,20 +78,16 @@ impl<'s> Symbol<'s> {
     /// looked at before. Returns `Invalid` if no identifier is spelled there.
     // Few identifiers have a `u`. A separate function keeps the code for the others short.
     #[inline(never)]
-    fn punycode_ident(
-        &self,
-        place: usize,
-        looks: &mut Looks,
-    ) -> Result<(Ident, usize), ParseError> {
-        let Ok((len, digits_end)) = self.length(place + 1, looks) else {
+    fn punycode_ident(&self, place: usize) -> Result<(Ident, usize), ParseError> {
+        let Ok((len, digits_end)) = self.length(place + 1) else {
             return Err(ParseError::Invalid);
         };
-        let from = self.skip(b'_', digits_end, looks);
+        let from = self.skip(b'_', digits_end);
         if self.len() - from < len {
             return Err(ParseError::Invalid);
         }
         let to = from + len;
-        let tail = self.tail(from, to, looks);
+        let tail = self.tail(from, to);
         // A name must not have an empty Punycode part. Such a name is spelled without the `u`.
         if tail == to {
             return Err(ParseError::Invalid);

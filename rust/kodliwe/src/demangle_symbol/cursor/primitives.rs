@@ -1,7 +1,7 @@
 // Made from crates/demangle_symbol/src/cursor/primitives.rt by packaging/crate/erase.py: edit that file instead.
 //! Reads the primitives of a v0 symbol that are numbers, letters and back references.
 
-use crate::demangle_symbol::cursor::{Looks, ParseError, Symbol, append_digit};
+use crate::demangle_symbol::cursor::{ParseError, Symbol, append_digit};
 
 /// The greatest depth to which productions of a symbol may be nested.
 pub const MAX_DEPTH: u32 = 500;
@@ -19,9 +19,9 @@ impl<'s> Symbol<'s> {
     ///
     /// Returns `Invalid` if no integer is spelled there, or if the integer is 2^64 or more.
     #[inline(never)]
-    pub fn integer_62(&self, place: usize, looks: &mut Looks) -> Result<(u64, usize), ParseError> {
+    pub fn integer_62(&self, place: usize) -> Result<(u64, usize), ParseError> {
         // `_` alone is 0, so the digits spell one less than the integer.
-        let Some(first) = self.integer_digit(place, looks)? else {
+        let Some(first) = self.integer_digit(place)? else {
             return Ok((0, place + 1));
         };
         let mut number = first;
@@ -29,13 +29,13 @@ impl<'s> Symbol<'s> {
         // Each digit read finds the end of the symbol itself.
         for step in 1..UNCHECKED_DIGITS {
             let at = place + step;
-            let Some(digit) = self.integer_digit(at, looks)? else {
+            let Some(digit) = self.integer_digit(at)? else {
                 return Ok((number + 1, at + 1));
             };
             number = number * 62 + digit;
         }
         for at in place + UNCHECKED_DIGITS..self.len() {
-            let Some(digit) = self.integer_digit(at, looks)? else {
+            let Some(digit) = self.integer_digit(at)? else {
                 let Some(value) = number.checked_add(1) else {
                     return Err(ParseError::Invalid);
                 };
@@ -51,11 +51,9 @@ impl<'s> Symbol<'s> {
 
     /// Reads a digit of an integer. Returns `None` if the byte is the `_` that ends the integer,
     /// and `Invalid` if it is any other byte.
-    #[inline(always)]
-    fn integer_digit(&self, place: usize, looks: &mut Looks) -> Result<Option<u64>, ParseError> {
-        // This call shows the proof that a symbol is shorter than 2^63 bytes.
-        let _count = self.inner.as_bytes().len();
-        let Some(byte) = self.byte(place, looks) else {
+    #[cfg_attr(not(debug_assertions), inline(always))]
+    fn integer_digit(&self, place: usize) -> Result<Option<u64>, ParseError> {
+        let Some(byte) = self.byte(place) else {
             return Err(ParseError::Invalid);
         };
         // Digits are tested first, since an integer has up to eleven of them and one end. The end
@@ -77,30 +75,21 @@ impl<'s> Symbol<'s> {
     /// # Errors
     ///
     /// Returns `Invalid` if the tag has no integer after it, or if the sum is 2^64 or more.
-    #[inline(always)]
-    pub fn opt_integer_62(
-        &self,
-        tag: u8,
-        place: usize,
-        looks: &mut Looks,
-    ) -> Result<(u64, usize), ParseError> {
-        if !self.is_at(tag, place, looks) {
+    #[cfg_attr(not(debug_assertions), inline(always))]
+    pub fn opt_integer_62(&self, tag: u8, place: usize) -> Result<(u64, usize), ParseError> {
+        if !self.is_at(tag, place) {
             return Ok((0, place));
         }
-        self.integer_after_tag(place + 1, looks)
+        self.integer_after_tag(place + 1)
     }
 
     /// Reads the integer after a tag. Returns the integer plus one, and the place after it. Returns
     /// `Invalid` if no integer is spelled there, or if the sum is 2^64 or more.
     // The function is separate since memory for the call's result is cleared at its start, and most
     // names have no tag.
-    #[inline(always)]
-    fn integer_after_tag(
-        &self,
-        place: usize,
-        looks: &mut Looks,
-    ) -> Result<(u64, usize), ParseError> {
-        let Ok((number, next)) = self.integer_62(place, looks) else {
+    #[cfg_attr(not(debug_assertions), inline(always))]
+    fn integer_after_tag(&self, place: usize) -> Result<(u64, usize), ParseError> {
+        let Ok((number, next)) = self.integer_62(place) else {
             return Err(ParseError::Invalid);
         };
         // A missing tag means 0, so an integer after the tag counts from 1.
@@ -117,13 +106,10 @@ impl<'s> Symbol<'s> {
     ///
     /// Returns `Invalid` if the tag has no integer after it, or if the disambiguator is 2^64 or
     /// more.
-    #[inline(always)]
-    pub fn disambiguator(
-        &self,
-        place: usize,
-        looks: &mut Looks,
-    ) -> Result<(u64, usize), ParseError> {
-        self.opt_integer_62(b's', place, looks)
+    #[cfg(all(test, feature = "stream"))]
+    #[cfg_attr(not(debug_assertions), inline(always))]
+    pub fn disambiguator(&self, place: usize) -> Result<(u64, usize), ParseError> {
+        self.opt_integer_62(b's', place)
     }
 
     /// Returns the place after a disambiguator, which gets no value.
@@ -131,16 +117,12 @@ impl<'s> Symbol<'s> {
     /// # Errors
     ///
     /// Returns `Invalid` as `disambiguator` does.
-    #[inline(always)]
-    pub fn after_disambiguator(
-        &self,
-        place: usize,
-        looks: &mut Looks,
-    ) -> Result<usize, ParseError> {
-        if !self.is_at(b's', place, looks) {
+    #[cfg_attr(not(debug_assertions), inline(always))]
+    pub fn after_disambiguator(&self, place: usize) -> Result<usize, ParseError> {
+        if !self.is_at(b's', place) {
             return Ok(place);
         }
-        self.after_tag(place + 1, looks)
+        self.after_tag(place + 1)
     }
 
     /// Reads a disambiguator and returns it with the place after it. If it is not needed, it gets no
@@ -149,20 +131,19 @@ impl<'s> Symbol<'s> {
     /// # Errors
     ///
     /// Returns `Invalid` as `disambiguator` does.
-    #[inline(always)]
+    #[cfg_attr(not(debug_assertions), inline(always))]
     pub fn disambiguator_if(
         &self,
         is_needed: bool,
         place: usize,
-        looks: &mut Looks,
     ) -> Result<(u64, usize), ParseError> {
-        if !self.is_at(b's', place, looks) {
+        if !self.is_at(b's', place) {
             return Ok((0, place));
         }
         if is_needed {
-            return self.integer_after_tag(place + 1, looks);
+            return self.integer_after_tag(place + 1);
         }
-        let Ok(next) = self.after_tag(place + 1, looks) else {
+        let Ok(next) = self.after_tag(place + 1) else {
             return Err(ParseError::Invalid);
         };
         Ok((0, next))
@@ -171,9 +152,9 @@ impl<'s> Symbol<'s> {
     /// Returns the place after the integer after a tag. Returns `Invalid` as `integer_after_tag`
     /// does.
     // It is separate for the same reason as `integer_after_tag`.
-    #[inline(always)]
-    fn after_tag(&self, place: usize, looks: &mut Looks) -> Result<usize, ParseError> {
-        let Some(next) = self.after_integer(place, looks) else {
+    #[cfg_attr(not(debug_assertions), inline(always))]
+    fn after_tag(&self, place: usize) -> Result<usize, ParseError> {
+        let Some(next) = self.after_integer(place) else {
             return Err(ParseError::Invalid);
         };
         Ok(next)
@@ -182,9 +163,9 @@ impl<'s> Symbol<'s> {
     /// Returns the place after the integer after a tag. Returns `None` if no integer is spelled
     /// there, or if the integer plus one is 2^64 or more.
     #[inline(never)]
-    fn after_integer(&self, place: usize, looks: &mut Looks) -> Option<usize> {
-        match self.integer_digit(place, looks) {
-            Ok(Some(first)) => self.after_first_digit(first, place, looks),
+    fn after_integer(&self, place: usize) -> Option<usize> {
+        match self.integer_digit(place) {
+            Ok(Some(first)) => self.after_first_digit(first, place),
             Ok(None) => Some(place + 1),
             Err(_) => None,
         }
@@ -194,32 +175,32 @@ impl<'s> Symbol<'s> {
     // Hashes of crates have ten or eleven digits. The symbol is cut at the first digit, so its
     // length is tested once. The loop has a constant number of iterations. So the compiler unrolls
     // it and drops the test of each place.
-    #[inline(always)]
-    fn after_first_digit(&self, first: u64, place: usize, looks: &mut Looks) -> Option<usize> {
+    #[cfg_attr(not(debug_assertions), inline(always))]
+    fn after_first_digit(&self, first: u64, place: usize) -> Option<usize> {
         let rest = self.from_digit(place);
         if rest.len() < UNCHECKED_DIGITS + 2 {
-            return self.after_checked_integer(place, looks);
+            return self.after_checked_integer(place);
         }
         for step in 0..UNCHECKED_DIGITS - 1 {
-            match rest.integer_digit(step + 1, looks) {
+            match rest.integer_digit(step + 1) {
                 Ok(Some(_)) => (),
                 Ok(None) => return Some(place + step + 2),
                 Err(_) => return None,
             }
         }
-        match rest.integer_digit(UNCHECKED_DIGITS, looks) {
+        match rest.integer_digit(UNCHECKED_DIGITS) {
             Ok(Some(_)) => (),
             Ok(None) => return Some(place + UNCHECKED_DIGITS + 1),
             Err(_) => return None,
         }
-        if first < FITTING_FIRST && rest.is_at(b'_', UNCHECKED_DIGITS + 1, looks) {
+        if first < FITTING_FIRST && rest.is_at(b'_', UNCHECKED_DIGITS + 1) {
             return Some(place + UNCHECKED_DIGITS + 2);
         }
-        self.after_checked_integer(place, looks)
+        self.after_checked_integer(place)
     }
 
     /// Returns the symbol's bytes from a digit on. It makes no look.
-    #[inline(always)]
+    #[cfg_attr(not(debug_assertions), inline(always))]
     fn from_digit(&self, place: usize) -> Symbol<'s> {
         Symbol {
             inner: &self.inner[place..],
@@ -228,10 +209,10 @@ impl<'s> Symbol<'s> {
 
     /// Does the same as `after_integer`, and computes the integer to check that it fits.
     #[inline(never)]
-    fn after_checked_integer(&self, place: usize, looks: &mut Looks) -> Option<usize> {
+    fn after_checked_integer(&self, place: usize) -> Option<usize> {
         let mut number: u64 = 0;
         for at in place..self.len() {
-            let digit = match self.integer_digit(at, looks) {
+            let digit = match self.integer_digit(at) {
                 Ok(Some(digit)) => digit,
                 Ok(None) => {
                     // The integer is one more than its digits spell, and has one added.
@@ -242,9 +223,7 @@ impl<'s> Symbol<'s> {
                 }
                 Err(_) => return None,
             };
-            let Some(longer) = append_digit(number, 62, digit as u8) else {
-                return None;
-            };
+            let longer = append_digit(number, 62, digit as u8)?;
             number = longer;
         }
         None
@@ -255,8 +234,8 @@ impl<'s> Symbol<'s> {
     /// # Errors
     ///
     /// Returns `Invalid` at the end of the symbol.
-    pub fn tag(&self, place: usize, looks: &mut Looks) -> Result<(u8, usize), ParseError> {
-        let Some(byte) = self.byte(place, looks) else {
+    pub fn tag(&self, place: usize) -> Result<(u8, usize), ParseError> {
+        let Some(byte) = self.byte(place) else {
             return Err(ParseError::Invalid);
         };
         Ok((byte, place + 1))
@@ -267,8 +246,8 @@ impl<'s> Symbol<'s> {
     /// # Errors
     ///
     /// Returns `Invalid` if the byte is not an ASCII letter.
-    pub fn namespace(&self, place: usize, looks: &mut Looks) -> Result<(u8, usize), ParseError> {
-        match self.byte(place, looks) {
+    pub fn namespace(&self, place: usize) -> Result<(u8, usize), ParseError> {
+        match self.byte(place) {
             Some(b) if b.is_ascii_alphabetic() => Ok((b, place + 1)),
             _ => Err(ParseError::Invalid),
         }
@@ -281,14 +260,9 @@ impl<'s> Symbol<'s> {
     ///
     /// Returns `Invalid` if no integer is spelled there, or if the target is not before the `B`.
     /// Otherwise returns `RecursedTooDeep` if `depth` is the greatest depth.
-    #[inline(always)]
-    pub fn backref(
-        &self,
-        place: usize,
-        depth: u32,
-        looks: &mut Looks,
-    ) -> Result<(usize, usize), ParseError> {
-        let (target, next) = self.integer_62(place, looks)?;
+    #[cfg_attr(not(debug_assertions), inline(always))]
+    pub fn backref(&self, place: usize, depth: u32) -> Result<(usize, usize), ParseError> {
+        let (target, next) = self.integer_62(place)?;
         // A back reference may only name a place before its `B`, so references cannot form a cycle.
         // The target is checked before the depth. So an invalid target is `Invalid` at any depth.
         if target >= place as u64 - 1 {
@@ -301,8 +275,8 @@ impl<'s> Symbol<'s> {
     }
 
     /// Returns the place after an optional byte. It makes one look.
-    pub fn skip(&self, byte: u8, place: usize, looks: &mut Looks) -> usize {
-        if self.is_at(byte, place, looks) {
+    pub fn skip(&self, byte: u8, place: usize) -> usize {
+        if self.is_at(byte, place) {
             place + 1
         } else {
             place
@@ -332,7 +306,7 @@ static DIGITS_62: [u8; 256] = [
 ];
 
 /// Returns the value of a digit in base 62, and 62 or more for any other byte.
-#[inline(always)]
+#[cfg_attr(not(debug_assertions), inline(always))]
 fn digit_62_of(byte: u8) -> u8 {
     DIGITS_62[usize::from(byte)]
 }

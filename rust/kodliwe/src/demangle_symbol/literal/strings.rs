@@ -2,7 +2,7 @@
 //! Decodes the characters of string constants from their nibbles.
 
 use crate::demangle_sink::{SinkRefused, SizeLimitedFmtAdapter, TextSink, put_char};
-use crate::demangle_symbol::cursor::{Looks, Part, Symbol, nibble_of};
+use crate::demangle_symbol::cursor::{Part, Symbol, nibble_of};
 use crate::demangle_symbol::literal::put_escaped;
 use core::str;
 
@@ -14,20 +14,17 @@ pub struct StrChars {
 }
 
 /// Returns the value of the nibble at a place.
-fn nibble_at(symbol: &Symbol<'_>, place: usize, looks: &mut Looks) -> u8 {
-    match symbol.byte(place, looks) {
-        Some(byte) => match nibble_of(byte) {
-            Some(value) => value,
-            None => 0,
-        },
+fn nibble_at(symbol: &Symbol<'_>, place: usize) -> u8 {
+    match symbol.byte(place) {
+        Some(byte) => nibble_of(byte).unwrap_or(0),
         None => 0,
     }
 }
 
 /// Returns the byte that the two nibbles from a place spell.
-fn nibble_byte(symbol: &Symbol<'_>, rest: Part, place: usize, looks: &mut Looks) -> u8 {
-    let high = nibble_at(symbol, place, looks);
-    let low = nibble_at(symbol, place + 1, looks);
+fn nibble_byte(symbol: &Symbol<'_>, place: usize) -> u8 {
+    let high = nibble_at(symbol, place);
+    let low = nibble_at(symbol, place + 1);
     high * 16 + low
 }
 
@@ -41,14 +38,14 @@ fn first_char(bytes: &[u8]) -> Option<char> {
 
 /// Returns the first character of a part and the place after it. Returns `None` if the nibbles do
 /// not start with a character.
-fn char_at(symbol: &Symbol<'_>, rest: Part, looks: &mut Looks) -> Option<(char, usize)> {
+fn char_at(symbol: &Symbol<'_>, rest: Part) -> Option<(char, usize)> {
     let mut bytes = [0_u8; 4];
     for len in 0..4_usize {
         let at = rest.from + 2 * len;
         if rest.to - at < 2 {
             return None;
         }
-        bytes[len] = nibble_byte(symbol, rest, at, looks);
+        bytes[len] = nibble_byte(symbol, at);
         if let Some(c) = first_char(&bytes[..len + 1]) {
             return Some((c, at + 2));
         }
@@ -69,10 +66,8 @@ impl StrChars {
 
     /// Returns the next character and removes its nibbles. Returns `None` if the nibbles do not
     /// start with a character, and then changes nothing.
-    pub fn next(&mut self, symbol: &Symbol<'_>, looks: &mut Looks) -> Option<char> {
-        let Some((c, next)) = char_at(symbol, self.rest, looks) else {
-            return None;
-        };
+    pub fn next(&mut self, symbol: &Symbol<'_>) -> Option<char> {
+        let (c, next) = char_at(symbol, self.rest)?;
         self.rest.from = next;
         Some(c)
     }
@@ -81,10 +76,10 @@ impl StrChars {
 /// Returns `true` if the nibbles of a hexadecimal string spell a text: their number is even and
 /// their bytes are UTF-8.
 #[inline(never)]
-pub fn is_string(symbol: &Symbol<'_>, nibbles: Part, looks: &mut Looks) -> bool {
+pub fn is_string(symbol: &Symbol<'_>, nibbles: Part) -> bool {
     let mut chars = StrChars::new(nibbles);
     while !chars.is_done() {
-        let Some(_) = chars.next(symbol, looks) else {
+        let Some(_) = chars.next(symbol) else {
             return false;
         };
     }
@@ -96,11 +91,10 @@ fn put_characters<S: TextSink>(
     symbol: &Symbol<'_>,
     nibbles: Part,
     out: &mut SizeLimitedFmtAdapter<'_, S>,
-    looks: &mut Looks,
 ) -> Result<(), SinkRefused> {
     let mut chars = StrChars::new(nibbles);
     while !chars.is_done() {
-        let Some(c) = chars.next(symbol, looks) else {
+        let Some(c) = chars.next(symbol) else {
             return Ok(());
         };
         put_escaped('"', c, out)?;
@@ -118,9 +112,8 @@ pub fn put_string_literal<S: TextSink>(
     symbol: &Symbol<'_>,
     nibbles: Part,
     out: &mut SizeLimitedFmtAdapter<'_, S>,
-    looks: &mut Looks,
 ) -> Result<(), SinkRefused> {
     put_char('"', out)?;
-    put_characters(symbol, nibbles, out, looks)?;
+    put_characters(symbol, nibbles, out)?;
     put_char('"', out)
 }

@@ -2,7 +2,7 @@
 //! Prints names, decoded if they have a Punycode part.
 
 use crate::demangle_sink::{SinkRefused, SizeLimitedFmtAdapter, TextSink, put_chars};
-use crate::demangle_symbol::cursor::{Ident, Looks, Part, Symbol};
+use crate::demangle_symbol::cursor::{Ident, Part, Symbol};
 use crate::demangle_symbol::punycode::decode;
 
 impl Ident {
@@ -41,10 +41,9 @@ impl Ident {
         punycode: Part,
         symbol: &Symbol<'_>,
         out: &mut SizeLimitedFmtAdapter<'_, S>,
-        looks: &mut Looks,
     ) -> Result<(), SinkRefused> {
         let name = Ident { ascii, punycode };
-        match decode(symbol, name, looks) {
+        match decode(symbol, name) {
             Some(characters) => put_chars(&characters, out),
             None => name.write_undecoded(symbol, out),
         }
@@ -56,16 +55,15 @@ impl Ident {
     /// # Errors
     ///
     /// Returns `SinkRefused` if the sink or the size limit rejects a piece. No later piece is sent.
-    #[inline(always)]
+    #[cfg_attr(not(debug_assertions), inline(always))]
     pub fn write_to<S: TextSink>(
         &self,
         symbol: &Symbol<'_>,
         out: &mut SizeLimitedFmtAdapter<'_, S>,
-        looks: &mut Looks,
     ) -> Result<(), SinkRefused> {
         if self.punycode.to <= self.punycode.from {
             return symbol.span(self.ascii).write_to(out);
         }
-        Ident::write_decoded(self.ascii, self.punycode, symbol, out, looks)
+        Ident::write_decoded(self.ascii, self.punycode, symbol, out)
     }
 }

@@ -6,9 +6,9 @@ use crate::demangle_v0::parser::lists::separator;
 use crate::demangle_v0::parser::machine::Parser;
 use crate::demangle_v0_tokens::fixed_texts::FixedText;
 
-impl<const N: usize> Parser<'_, N> {
+impl Parser<'_, '_> {
     /// Queues the `<` of a path's generic arguments, or `::` before it in value position.
-    #[inline(always)]
+    #[cfg_attr(not(debug_assertions), inline(always))]
     pub(super) fn generic(&mut self) -> Continuation {
         if self.state.in_value {
             self.put(FixedText::PathSeparator);
@@ -21,12 +21,12 @@ impl<const N: usize> Parser<'_, N> {
     /// Starts the first or a further generic argument of a path, or ends their list.
     ///
     /// A parse that prints folded arguments does not read them here, but as it reads an impl path.
-    #[inline(always)]
+    #[cfg_attr(not(debug_assertions), inline(always))]
     pub(super) fn arguments(&mut self, is_first: bool) -> Continuation {
         let Some(at) = self.state.place else {
             return self.end_with(FixedText::Greater);
         };
-        if self.source.symbol.is_at(b'E', at, &mut self.looks) {
+        if self.source.symbol.is_at(b'E', at) {
             self.state.place = Some(at + 1);
             return self.end_with(FixedText::Greater);
         }
@@ -37,14 +37,14 @@ impl<const N: usize> Parser<'_, N> {
 
     /// Reads the tag of a generic argument at `at`, the current offset: `L` for a lifetime, `K` for
     /// a constant, and none for a type.
-    #[inline(always)]
+    #[cfg_attr(not(debug_assertions), inline(always))]
     pub(super) fn argument(&mut self, at: usize) -> Continuation {
         self.state.in_value = false;
-        if self.source.symbol.is_at(b'L', at, &mut self.looks) {
+        if self.source.symbol.is_at(b'L', at) {
             self.state.place = Some(at + 1);
             return Continuation::Lifetime;
         }
-        if self.source.symbol.is_at(b'K', at, &mut self.looks) {
+        if self.source.symbol.is_at(b'K', at) {
             self.state.place = Some(at + 1);
             return Continuation::Constant;
         }

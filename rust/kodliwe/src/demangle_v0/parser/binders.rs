@@ -6,11 +6,11 @@ use crate::demangle_v0::parser::machine::Parser;
 use crate::demangle_v0_tokens::output::Output;
 use crate::demangle_v0_tokens::token::Token;
 
-impl<const N: usize> Parser<'_, N> {
+impl Parser<'_, '_> {
     /// Brings `number` further lifetimes into scope, and prints them.
     ///
     /// Fails if the output does.
-    #[inline(always)]
+    #[cfg_attr(not(debug_assertions), inline(always))]
     pub(super) fn bind_lifetimes<V: Output>(
         &mut self,
         number: u64,

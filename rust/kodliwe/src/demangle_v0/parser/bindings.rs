@@ -9,7 +9,7 @@ use crate::demangle_v0_tokens::read::TokenOutcome;
 use crate::demangle_v0_tokens::token::TokenKind;
 
 /// Returns the text after the last binding: a `>` if the bracket is open.
-#[inline(always)]
+#[cfg_attr(not(debug_assertions), inline(always))]
 fn closing_text(is_bracket_open: bool) -> Option<FixedText> {
     if is_bracket_open {
         Some(FixedText::Greater)
@@ -19,7 +19,7 @@ fn closing_text(is_bracket_open: bool) -> Option<FixedText> {
 }
 
 /// Returns the text before a binding: a `<` if the bracket is not yet open.
-#[inline(always)]
+#[cfg_attr(not(debug_assertions), inline(always))]
 fn opening_text(is_bracket_open: bool) -> FixedText {
     if is_bracket_open {
         FixedText::Comma
@@ -28,18 +28,18 @@ fn opening_text(is_bracket_open: bool) -> FixedText {
     }
 }
 
-impl<const N: usize> Parser<'_, N> {
+impl Parser<'_, '_> {
     /// Starts the next binding of a dyn trait, or ends its bindings.
     ///
     /// Queues the text before either, which depends on whether the bracket is open.
-    #[inline(always)]
+    #[cfg_attr(not(debug_assertions), inline(always))]
     fn binding(&mut self, is_bracket_open: bool) -> Continuation {
         let Some(at) = self.state.place else {
             self.state.pending_text = closing_text(is_bracket_open);
             self.state.is_bracket_open = false;
             return Continuation::End;
         };
-        if !self.source.symbol.is_at(b'p', at, &mut self.looks) {
+        if !self.source.symbol.is_at(b'p', at) {
             self.state.pending_text = closing_text(is_bracket_open);
             return Continuation::NextDynTrait;
         }
@@ -49,13 +49,13 @@ impl<const N: usize> Parser<'_, N> {
     }
 
     /// Starts the first binding after the path of a dyn trait, or ends its bindings.
-    #[inline(always)]
+    #[cfg_attr(not(debug_assertions), inline(always))]
     pub(super) fn bindings(&mut self) -> Continuation {
         self.binding(self.state.is_bracket_open)
     }
 
     /// Starts a further binding of a dyn trait, or ends its bindings.
-    #[inline(always)]
+    #[cfg_attr(not(debug_assertions), inline(always))]
     pub(super) fn further_bindings(&mut self) -> Continuation {
         self.binding(true)
     }
@@ -77,14 +77,14 @@ impl<const N: usize> Parser<'_, N> {
     }
 
     /// Starts the value of a binding: a constant or a type. Further bindings follow it.
-    #[inline(always)]
+    #[cfg_attr(not(debug_assertions), inline(always))]
     pub(super) fn bound_value(&mut self) -> Continuation {
         self.push(Continuation::FurtherBindings);
         self.state.in_value = false;
         let Some(at) = self.state.place else {
             return Continuation::Type;
         };
-        if self.source.symbol.is_at(b'K', at, &mut self.looks) {
+        if self.source.symbol.is_at(b'K', at) {
             self.state.place = Some(at + 1);
             return Continuation::Constant;
         }

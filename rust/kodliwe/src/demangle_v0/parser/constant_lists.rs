@@ -16,7 +16,7 @@ pub enum ConstantList {
 
 impl ConstantList {
     /// Returns the text that closes the list.
-    #[inline(always)]
+    #[cfg_attr(not(debug_assertions), inline(always))]
     fn close(self) -> FixedText {
         match self {
             ConstantList::Array => FixedText::CloseBracket,
@@ -26,7 +26,7 @@ impl ConstantList {
     }
 
     /// Returns the continuation that reads an element.
-    #[inline(always)]
+    #[cfg_attr(not(debug_assertions), inline(always))]
     fn element(self) -> Continuation {
         match self {
             ConstantList::Fields => Continuation::Field,
@@ -35,7 +35,7 @@ impl ConstantList {
     }
 
     /// Returns the continuation after the first element.
-    #[inline(always)]
+    #[cfg_attr(not(debug_assertions), inline(always))]
     fn after_first(self) -> Continuation {
         match self {
             ConstantList::Array => Continuation::NextArrayConstant,
@@ -46,7 +46,7 @@ impl ConstantList {
     }
 
     /// Returns the continuation after a further element.
-    #[inline(always)]
+    #[cfg_attr(not(debug_assertions), inline(always))]
     fn after_next(self) -> Continuation {
         match self {
             ConstantList::Array => Continuation::NextArrayConstant,
@@ -57,9 +57,9 @@ impl ConstantList {
     }
 }
 
-impl<const N: usize> Parser<'_, N> {
+impl Parser<'_, '_> {
     /// Starts the first element of a list, or closes the list if it has ended.
-    #[inline(always)]
+    #[cfg_attr(not(debug_assertions), inline(always))]
     pub(super) fn first_list_constant(&mut self, list: ConstantList) -> Continuation {
         if self.ends_list() {
             return self.end_with(list.close());
@@ -70,7 +70,7 @@ impl<const N: usize> Parser<'_, N> {
     }
 
     /// Starts a further element after a comma, or closes the list if it has ended.
-    #[inline(always)]
+    #[cfg_attr(not(debug_assertions), inline(always))]
     pub(super) fn next_list_constant(&mut self, list: ConstantList) -> Continuation {
         if self.ends_list() {
             return self.end_with(list.close());
@@ -82,7 +82,7 @@ impl<const N: usize> Parser<'_, N> {
     }
 
     /// Starts the second element of a tuple, or queues the comma that follows a single element.
-    #[inline(always)]
+    #[cfg_attr(not(debug_assertions), inline(always))]
     pub(super) fn second_tuple_constant(&mut self) -> Continuation {
         if self.ends_list() {
             self.put(FixedText::TrailingComma);

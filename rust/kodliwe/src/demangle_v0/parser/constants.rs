@@ -8,7 +8,7 @@ use crate::demangle_v0_tokens::output::Output;
 use crate::demangle_v0_tokens::tags::{ConstantKind, constant_kind};
 use crate::demangle_v0_tokens::token::TokenKind;
 
-impl<const N: usize> Parser<'_, N> {
+impl Parser<'_, '_> {
     /// Reads and prints a string, with which the constant ends.
     #[inline(never)]
     pub(super) fn literal<V: Output>(&mut self, output: &mut V) -> Result<Continuation, StepError> {
@@ -26,7 +26,7 @@ impl<const N: usize> Parser<'_, N> {
     /// Returns `constant`, and puts it in braces if the constant is outside value position.
     ///
     /// It queues the opening brace and pushes a frame for the closing one.
-    #[inline(always)]
+    #[cfg_attr(not(debug_assertions), inline(always))]
     fn with_braces(&mut self, constant: Continuation) -> Continuation {
         // An expression that is not a literal needs braces in Rust as an argument of a path.
         if !self.state.in_value {
@@ -39,7 +39,7 @@ impl<const N: usize> Parser<'_, N> {
     /// Reads a number that may be negative, after its tag.
     ///
     /// It queues the `-` of a negative number, whose digits the next step reads.
-    #[inline(always)]
+    #[cfg_attr(not(debug_assertions), inline(always))]
     fn signed_number<V: Output>(
         &mut self,
         tag: u8,
@@ -47,7 +47,7 @@ impl<const N: usize> Parser<'_, N> {
     ) -> Result<Continuation, StepError> {
         let at = self.state.place_or_abort()?;
         self.state.letter = tag;
-        if self.source.symbol.is_at(b'n', at, &mut self.looks) {
+        if self.source.symbol.is_at(b'n', at) {
             self.state.place = Some(at + 1);
             self.put(FixedText::Minus);
             return Ok(Continuation::Number);
@@ -56,13 +56,13 @@ impl<const N: usize> Parser<'_, N> {
     }
 
     /// Reads a string, or starts a shared reference, after its `R`.
-    #[inline(always)]
+    #[cfg_attr(not(debug_assertions), inline(always))]
     fn shared_reference<V: Output>(&mut self, output: &mut V) -> Result<Continuation, StepError> {
         let Some(at) = self.state.place else {
             return Ok(self.with_braces(Continuation::ReferenceConstant));
         };
         // `Re` is printed as `".."`, which has the type `&str`, and not as `&*".."`.
-        if self.source.symbol.is_at(b'e', at, &mut self.looks) {
+        if self.source.symbol.is_at(b'e', at) {
             self.state.place = Some(at + 1);
             return self.literal(output);
         }
@@ -70,7 +70,7 @@ impl<const N: usize> Parser<'_, N> {
     }
 
     /// Starts the path of a variant, after its `V`.
-    #[inline(always)]
+    #[cfg_attr(not(debug_assertions), inline(always))]
     fn variant_path(&mut self) -> Continuation {
         self.push(Continuation::Variant);
         if self.state.in_value {
@@ -82,7 +82,7 @@ impl<const N: usize> Parser<'_, N> {
     }
 
     /// Reads a constant, after its tag.
-    #[inline(always)]
+    #[cfg_attr(not(debug_assertions), inline(always))]
     fn tagged_constant<V: Output>(
         &mut self,
         tag: u8,
@@ -115,7 +115,7 @@ impl<const N: usize> Parser<'_, N> {
         output: &mut V,
     ) -> Result<Continuation, StepError> {
         let at = self.state.place_or_abort()?;
-        let (tag, next) = self.source.symbol.tag(at, &mut self.looks)?;
+        let (tag, next) = self.source.symbol.tag(at)?;
         // Every constant raises the depth, even a number or a placeholder. A basic type does not.
         self.enter()?;
         self.state.place = Some(next);

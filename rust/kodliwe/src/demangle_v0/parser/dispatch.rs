@@ -8,12 +8,12 @@ use crate::demangle_v0::parser::types::may_have_splat;
 use crate::demangle_v0::parser::{Continuation, StepError};
 use crate::demangle_v0_tokens::output::Output;
 
-impl<const N: usize> Parser<'_, N> {
+impl Parser<'_, '_> {
     /// Performs a continuation, and returns the one to run next. If `defers` is true, a path is
     /// performed with those that are nested in one another, and with their names.
     ///
     /// An impl path and folded arguments are only read here if nothing is printed.
-    #[inline(always)]
+    #[cfg_attr(not(debug_assertions), inline(always))]
     pub(super) fn dispatch<V: Output>(
         &mut self,
         continuation: Continuation,

@@ -8,9 +8,9 @@ use crate::demangle_v0_tokens::fixed_texts::FixedText;
 use crate::demangle_v0_tokens::output::Output;
 use crate::demangle_v0_tokens::token::TokenKind;
 
-impl<const N: usize> Parser<'_, N> {
+impl Parser<'_, '_> {
     /// Queues the `dyn ` of a dyn type, after its `D`. The binder of its traits follows.
-    #[inline(always)]
+    #[cfg_attr(not(debug_assertions), inline(always))]
     pub(super) fn dyn_type(&mut self) -> Continuation {
         // The lifetime of the type follows the traits, outside their binder. So the frame has only
         // the lifetimes that are in scope without it.
@@ -28,10 +28,7 @@ impl<const N: usize> Parser<'_, N> {
         output: &mut V,
     ) -> Result<Continuation, StepError> {
         let at = self.state.place_or_abort()?;
-        let (number, next) = self
-            .source
-            .symbol
-            .opt_integer_62(b'G', at, &mut self.looks)?;
+        let (number, next) = self.source.symbol.opt_integer_62(b'G', at)?;
         self.state.place = Some(next);
         if number == 0 {
             return Ok(self.dyn_trait(true));
@@ -43,7 +40,7 @@ impl<const N: usize> Parser<'_, N> {
     /// Starts the next dyn trait, or ends the traits.
     ///
     /// Queues the ` + ` before a trait that is not the first.
-    #[inline(always)]
+    #[cfg_attr(not(debug_assertions), inline(always))]
     pub(super) fn dyn_trait(&mut self, is_first: bool) -> Continuation {
         if self.ends_list() {
             self.state.is_bracket_open = false;
@@ -57,18 +54,18 @@ impl<const N: usize> Parser<'_, N> {
     /// Starts the path of a dyn trait, which may be a back reference.
     ///
     /// If the path has arguments, their bracket stays open for the bindings that may follow.
-    #[inline(always)]
+    #[cfg_attr(not(debug_assertions), inline(always))]
     pub(super) fn trait_path<V: Output>(
         &mut self,
         output: &mut V,
     ) -> Result<Continuation, StepError> {
         let at = self.state.place_or_abort()?;
-        if self.source.symbol.is_at(b'B', at, &mut self.looks) {
+        if self.source.symbol.is_at(b'B', at) {
             self.state.place = Some(at + 1);
             return self.follow_backref(Continuation::TraitPath, output);
         }
         self.state.in_value = false;
-        if self.source.symbol.is_at(b'I', at, &mut self.looks) {
+        if self.source.symbol.is_at(b'I', at) {
             self.state.place = Some(at + 1);
             self.push(Continuation::OpenTraitArguments);
             return Ok(Continuation::Path);
@@ -80,13 +77,13 @@ impl<const N: usize> Parser<'_, N> {
     ///
     /// Queues the `, ` before an argument that is not the first. After the last one the bracket is
     /// still open.
-    #[inline(always)]
+    #[cfg_attr(not(debug_assertions), inline(always))]
     pub(super) fn trait_argument(&mut self, is_first: bool) -> Continuation {
         let Some(at) = self.state.place else {
             self.state.is_bracket_open = true;
             return Continuation::End;
         };
-        if self.source.symbol.is_at(b'E', at, &mut self.looks) {
+        if self.source.symbol.is_at(b'E', at) {
             self.state.place = Some(at + 1);
             self.state.is_bracket_open = true;
             return Continuation::End;
@@ -98,7 +95,7 @@ impl<const N: usize> Parser<'_, N> {
 
     /// Queues the `_` for the arguments of a dyn trait path, which were read. The bracket stays
     /// open.
-    #[inline(always)]
+    #[cfg_attr(not(debug_assertions), inline(always))]
     pub(super) fn folded_trait_arguments(&mut self) -> Continuation {
         self.put(FixedText::Placeholder);
         self.state.is_bracket_open = true;

@@ -7,14 +7,14 @@ use crate::demangle_v0::parser::{State, StepError};
 use crate::demangle_v0_tokens::fixed_texts::FixedText;
 
 impl From<SinkRefused> for StepError {
-    #[inline(always)]
+    #[cfg_attr(not(debug_assertions), inline(always))]
     fn from(_refused: SinkRefused) -> StepError {
         StepError::Sink
     }
 }
 
 impl From<ParseError> for StepError {
-    #[inline(always)]
+    #[cfg_attr(not(debug_assertions), inline(always))]
     fn from(error: ParseError) -> StepError {
         match error {
             ParseError::Invalid => StepError::Abort(FixedText::Invalid),
@@ -25,13 +25,13 @@ impl From<ParseError> for StepError {
 
 impl State {
     /// Returns the offset of the next byte. It fails after an error.
-    #[inline(always)]
+    #[cfg_attr(not(debug_assertions), inline(always))]
     pub(super) fn place_or_abort(&self) -> Result<usize, StepError> {
         self.place.ok_or(StepError::Abort(FixedText::AfterError))
     }
 
     /// Returns how many levels of nesting are allowed one level deeper. It fails if none is left.
-    #[inline(always)]
+    #[cfg_attr(not(debug_assertions), inline(always))]
     pub(super) fn nested_depth(&self) -> Result<u16, StepError> {
         self.depth_left
             .checked_sub(1)

@@ -18,7 +18,7 @@ pub struct TextStep {
 
 /// Returns the text that `continuation` queues and what follows it, or `None` if the continuation
 /// does more than queue a text.
-#[inline(always)]
+#[cfg_attr(not(debug_assertions), inline(always))]
 fn text_step_at(continuation: Continuation) -> Option<TextStep> {
     let (pending_text, next, in_value) = match continuation {
         Continuation::CloseParen => (FixedText::CloseParen, Continuation::End, false),
@@ -61,9 +61,9 @@ fn text_step_at(continuation: Continuation) -> Option<TextStep> {
     })
 }
 
-impl<const N: usize> Parser<'_, N> {
+impl Parser<'_, '_> {
     /// Queues the fixed text of a continuation that does nothing else.
-    #[inline(always)]
+    #[cfg_attr(not(debug_assertions), inline(always))]
     pub(super) fn queue_text(&mut self, continuation: Continuation) -> Continuation {
         let Some(left) = text_step_at(continuation) else {
             return Continuation::End;

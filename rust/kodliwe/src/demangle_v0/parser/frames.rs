@@ -2,8 +2,6 @@
 //! The frames, which store what follows a nested production, and their stack.
 
 use crate::demangle_v0::parser::Continuation;
-use crate::support::arrayvec::ArrayVec;
-use core::default::Default;
 
 use core::mem;
 
@@ -26,7 +24,7 @@ pub struct Frame {
 
 /// A frame as the stack stores it, in 16 bytes.
 #[derive(Clone, Copy)]
-struct PackedFrame {
+pub struct PackedFrame {
     low: u64,
     high: u16,
     depth_left: u16,
@@ -39,23 +37,18 @@ struct PackedFrame {
 
 const _: () = assert!(mem::size_of::<PackedFrame>() == 16);
 
-impl Default for PackedFrame {
-    /// Returns what the stack stores above its top.
-    #[inline(always)]
-    fn default() -> Self {
-        PackedFrame {
-            low: 0,
-            high: 0,
-            depth_left: 0,
-            continuation: Continuation::InherentImplPath,
-            in_value: false,
-            letter: 0,
-        }
-    }
-}
+/// What the memory of a stack holds above its top.
+pub const UNUSED_FRAME: PackedFrame = PackedFrame {
+    low: 0,
+    high: 0,
+    depth_left: 0,
+    continuation: Continuation::InherentImplPath,
+    in_value: false,
+    letter: 0,
+};
 
 /// Returns a frame as the stack stores it.
-#[inline(always)]
+#[cfg_attr(not(debug_assertions), inline(always))]
 fn pack(frame: Frame) -> PackedFrame {
     PackedFrame {
         low: (frame.number % TWO_64) as u64,
@@ -70,7 +63,7 @@ fn pack(frame: Frame) -> PackedFrame {
 }
 
 /// Returns the frame that the stack stores so.
-#[inline(always)]
+#[cfg_attr(not(debug_assertions), inline(always))]
 fn unpack(packed: PackedFrame) -> Frame {
     Frame {
         continuation: packed.continuation,
@@ -90,68 +83,65 @@ pub const MIDDLE_STACK: usize = 512;
 /// The number of frames of a last stack. No symbol needs more.
 pub const FULL_STACK: usize = 4096;
 
-/// A stack of at most `N` frames. The last one is the top.
-pub struct FrameStack<const N: usize> {
-    frames: ArrayVec<PackedFrame, N>,
+/// A stack of frames in the caller's memory. The last one is the top.
+pub struct FrameStack<'f> {
+    memory: &'f mut [PackedFrame],
+    len: usize,
 }
 
-impl<const N: usize> FrameStack<N> {
-    /// Returns an empty stack.
-    #[inline(always)]
-    pub fn new() -> Self {
+impl<'f> FrameStack<'f> {
+    /// Returns an empty stack, which has room for as many frames as this memory.
+    #[cfg_attr(not(debug_assertions), inline(always))]
+    pub fn new(memory: &'f mut [PackedFrame]) -> Self {
+        FrameStack { memory, len: 0 }
+    }
+
+    /// Returns a stack in this memory with the frames of another.
+    pub fn with_frames_of(other: &FrameStack<'_>, memory: &'f mut [PackedFrame]) -> Self {
+        memory[..other.len].copy_from_slice(&other.memory[..other.len]);
         FrameStack {
-            frames: ArrayVec::new(),
+            memory,
+            len: other.len,
         }
     }
 
     /// Returns the number of frames.
-    #[inline(always)]
+    #[cfg_attr(not(debug_assertions), inline(always))]
     pub fn len(&self) -> usize {
-        self.frames.len()
+        self.len
+    }
+
+    /// Returns whether there is room for another frame.
+    #[cfg_attr(not(debug_assertions), inline(always))]
+    pub fn has_room(&self) -> bool {
+        self.len < self.memory.len()
+    }
+
+    /// Returns for how many further frames there is room.
+    #[cfg_attr(not(debug_assertions), inline(always))]
+    pub fn room_left(&self) -> usize {
+        self.memory.len() - self.len
     }
 
     /// Pushes a frame.
-    #[inline(always)]
+    #[cfg_attr(not(debug_assertions), inline(always))]
     pub fn push(&mut self, frame: Frame) {
-        self.frames.push(pack(frame));
-    }
-
-    /// Pushes all frames of another stack, in their order.
-    pub fn append<const M: usize>(&mut self, other: &FrameStack<M>) {
-        let _ = self.frames.try_extend_from_slice(other.frames.as_slice());
+        self.memory[self.len] = pack(frame);
+        self.len += 1;
     }
 
     /// Keeps only the lowest `count` frames.
     pub fn truncate(&mut self, count: usize) {
-        self.frames.truncate(count);
-    }
-
-    /// Returns the number of the top frame, or 0 if the stack is empty.
-    // It is not inlined, so that the loop that asks for it stays small.
-    #[inline(never)]
-    pub fn top_number(&self) -> u128 {
-        match self.frames.as_slice().last() {
-            Some(frame) => unpack(*frame).number,
-            None => 0,
-        }
-    }
-
-    /// Returns whether the top frame is the place after a reference.
-    // It is not inlined, as above.
-    #[inline(never)]
-    pub fn top_is_reference(&self) -> bool {
-        match self.frames.as_slice().last() {
-            Some(frame) => match unpack(*frame).continuation {
-                Continuation::AfterBackref => true,
-                _ => false,
-            },
-            None => false,
-        }
+        self.len = self.len.min(count);
     }
 
     /// Removes the top frame and returns it, or returns `None` if the stack is empty.
-    #[inline(always)]
+    #[cfg_attr(not(debug_assertions), inline(always))]
     pub fn pop(&mut self) -> Option<Frame> {
-        Some(unpack(self.frames.pop()?))
+        if self.len == 0 {
+            return None;
+        }
+        self.len -= 1;
+        Some(unpack(self.memory[self.len]))
     }
 }

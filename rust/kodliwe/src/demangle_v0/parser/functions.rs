@@ -10,12 +10,12 @@ use crate::demangle_v0_tokens::read::TokenOutcome;
 use crate::demangle_v0_tokens::token::{Abi, Token, TokenKind};
 
 /// Returns whether a function has no qualifiers, so that nothing is printed before its `fn`.
-#[inline(always)]
+#[cfg_attr(not(debug_assertions), inline(always))]
 fn has_no_qualifiers(head: &Token) -> bool {
     matches!(head, Token::FunctionQualifiers(false, Abi::Rust))
 }
 
-impl<const N: usize> Parser<'_, N> {
+impl Parser<'_, '_> {
     /// Reads the binder of a function type, after its `F`, and prints its lifetimes.
     ///
     /// The qualifiers follow. If there is no binder, the same step reads them.
@@ -25,10 +25,7 @@ impl<const N: usize> Parser<'_, N> {
         output: &mut V,
     ) -> Result<Continuation, StepError> {
         let at = self.state.place_or_abort()?;
-        let (number, next) = self
-            .source
-            .symbol
-            .opt_integer_62(b'G', at, &mut self.looks)?;
+        let (number, next) = self.source.symbol.opt_integer_62(b'G', at)?;
         self.state.place = Some(next);
         if number == 0 {
             return self.function_qualifiers(output);
@@ -59,7 +56,7 @@ impl<const N: usize> Parser<'_, N> {
     /// Starts the next parameter of a function type, or ends the parameters.
     ///
     /// Queues the text before either: `, ` unless the parameter is the first, or `)`.
-    #[inline(always)]
+    #[cfg_attr(not(debug_assertions), inline(always))]
     pub(super) fn parameter(&mut self, is_first: bool) -> Continuation {
         if self.ends_list() {
             self.put(FixedText::CloseParen);
@@ -73,13 +70,13 @@ impl<const N: usize> Parser<'_, N> {
     /// Starts the type that a function returns, and queues the ` -> ` before it.
     ///
     /// A `()` is read here, and nothing is printed for it.
-    #[inline(always)]
+    #[cfg_attr(not(debug_assertions), inline(always))]
     pub(super) fn returns(&mut self) -> Continuation {
         let Some(at) = self.state.place else {
             self.put(FixedText::Arrow);
             return Continuation::Type;
         };
-        if self.source.symbol.is_at(b'u', at, &mut self.looks) {
+        if self.source.symbol.is_at(b'u', at) {
             self.state.place = Some(at + 1);
             self.state.is_bracket_open = false;
             return Continuation::End;

@@ -5,15 +5,15 @@ use crate::demangle_v0::parser::machine::Parser;
 use crate::demangle_v0::parser::{Continuation, StepError};
 use crate::demangle_v0_tokens::fixed_texts::FixedText;
 
-impl<const N: usize> Parser<'_, N> {
+impl Parser<'_, '_> {
     /// Reads the disambiguator of an impl, after its `M`, or its `X` if the impl is of a trait.
-    #[inline(always)]
+    #[cfg_attr(not(debug_assertions), inline(always))]
     pub(super) fn impl_disambiguator(&mut self, is_trait: bool) -> Result<Continuation, StepError> {
         let Some(at) = self.state.place else {
             return Err(StepError::Abort(FixedText::AfterError));
         };
         // The disambiguator distinguishes the impls of a module, and is not printed.
-        let Ok(next) = self.source.symbol.after_disambiguator(at, &mut self.looks) else {
+        let Ok(next) = self.source.symbol.after_disambiguator(at) else {
             return Err(StepError::Abort(FixedText::Invalid));
         };
         self.state.place = Some(next);
@@ -24,7 +24,7 @@ impl<const N: usize> Parser<'_, N> {
     }
 
     /// Starts the impl's own path during validation. The printing loop skips that path instead.
-    #[inline(always)]
+    #[cfg_attr(not(debug_assertions), inline(always))]
     pub(super) fn read_impl_path(&mut self, is_trait: bool) -> Continuation {
         let next = if is_trait {
             Continuation::TraitSelfType
@@ -37,7 +37,7 @@ impl<const N: usize> Parser<'_, N> {
     }
 
     /// Queues `<` and starts the self type, which is followed by a trait or by `>`.
-    #[inline(always)]
+    #[cfg_attr(not(debug_assertions), inline(always))]
     pub(super) fn self_type(&mut self, is_trait: bool) -> Continuation {
         self.put(FixedText::Less);
         if is_trait {
@@ -49,7 +49,7 @@ impl<const N: usize> Parser<'_, N> {
     }
 
     /// Queues ` as ` and starts the trait, which is followed by `>`.
-    #[inline(always)]
+    #[cfg_attr(not(debug_assertions), inline(always))]
     pub(super) fn as_trait(&mut self) -> Continuation {
         self.push(Continuation::CloseAngle);
         self.put(FixedText::AsTrait);

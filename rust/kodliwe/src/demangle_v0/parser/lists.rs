@@ -5,21 +5,21 @@ use crate::demangle_v0::parser::machine::Parser;
 use crate::demangle_v0_tokens::fixed_texts::FixedText;
 
 /// Returns the text before an element: none before the first.
-#[inline(always)]
+#[cfg_attr(not(debug_assertions), inline(always))]
 pub(super) fn separator(is_first: bool, pending_text: FixedText) -> Option<FixedText> {
     if is_first { None } else { Some(pending_text) }
 }
 
-impl<const N: usize> Parser<'_, N> {
+impl Parser<'_, '_> {
     /// Reads the `E` after a list, and returns whether the list ends.
     ///
     /// A list also ends if parsing has failed, so that what follows the list is printed.
-    #[inline(always)]
+    #[cfg_attr(not(debug_assertions), inline(always))]
     pub(super) fn ends_list(&mut self) -> bool {
         let Some(at) = self.state.place else {
             return true;
         };
-        if !self.source.symbol.is_at(b'E', at, &mut self.looks) {
+        if !self.source.symbol.is_at(b'E', at) {
             return false;
         }
         self.state.place = Some(at + 1);

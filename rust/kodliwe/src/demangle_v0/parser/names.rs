@@ -2,7 +2,7 @@
 //! The names of crates and of nested paths, which are read and printed.
 
 use crate::demangle_sink::SinkRefused;
-use crate::demangle_symbol::cursor::{Ident, Looks, Symbol};
+use crate::demangle_symbol::cursor::{Ident, Symbol};
 use crate::demangle_v0::parser::machine::Parser;
 use crate::demangle_v0::parser::{Continuation, StepError};
 use crate::demangle_v0_tokens::fixed_texts::FixedText;
@@ -10,43 +10,35 @@ use crate::demangle_v0_tokens::output::Output;
 use crate::demangle_v0_tokens::token::Token;
 
 /// Returns `true` if the names of a namespace are printed with their disambiguators.
-#[inline(always)]
+#[cfg_attr(not(debug_assertions), inline(always))]
 fn is_special(namespace: u8) -> bool {
-    match namespace {
-        b'A'..=b'Z' => true,
-        _ => false,
-    }
+    matches!(namespace, b'A'..=b'Z')
 }
 
 /// Reads a name after its disambiguator. Returns the name, the disambiguator and the place after
 /// both, or `None` if they are not spelled there. The disambiguator is 0 if it is not needed.
-#[inline(always)]
-fn name_at(
-    symbol: &Symbol<'_>,
-    needs_number: bool,
-    place: usize,
-    looks: &mut Looks,
-) -> Option<(Ident, u64, usize)> {
-    let Ok((number, at)) = symbol.disambiguator_if(needs_number, place, looks) else {
+#[cfg_attr(not(debug_assertions), inline(always))]
+fn name_at(symbol: &Symbol<'_>, needs_number: bool, place: usize) -> Option<(Ident, u64, usize)> {
+    let Ok((number, at)) = symbol.disambiguator_if(needs_number, place) else {
         return None;
     };
-    let Ok((name, next)) = symbol.ident(at, looks) else {
+    let Ok((name, next)) = symbol.ident(at) else {
         return None;
     };
     Some((name, number, next))
 }
 
-impl<const N: usize> Parser<'_, N> {
+impl Parser<'_, '_> {
     /// Reads and prints the name of a crate, which ends its path.
-    #[inline(always)]
+    #[cfg_attr(not(debug_assertions), inline(always))]
     pub(super) fn crate_name<V: Output>(
         &mut self,
         output: &mut V,
     ) -> Result<Continuation, StepError> {
         let at = self.state.place_or_abort()?;
         // A crate's disambiguator is its hash.
-        let has_hash = self.source.include_hash;
-        let named = name_at(self.source.symbol, has_hash, at, &mut self.looks);
+        let has_hash = self.source.form.include_hash;
+        let named = name_at(self.source.symbol, has_hash, at);
         let (name, number, next) = named.ok_or(StepError::Abort(FixedText::Invalid))?;
         self.state.place = Some(next);
         self.state.is_bracket_open = false;
@@ -57,11 +49,11 @@ impl<const N: usize> Parser<'_, N> {
     /// Passes the text of a name after an error to the output.
     #[inline(never)]
     fn emit_name_after_error<V: Output>(&mut self, output: &mut V) -> Result<(), SinkRefused> {
-        output.emit_error(&self.source, &Token::NameAfterError, &mut self.looks)
+        output.emit_error(&self.source, &Token::NameAfterError)
     }
 
     /// Prints `::` and that the name was not read, since its path has failed.
-    #[inline(always)]
+    #[cfg_attr(not(debug_assertions), inline(always))]
     fn name_after_error<V: Output>(&mut self, output: &mut V) -> Result<Continuation, StepError> {
         self.state.is_bracket_open = false;
         self.emit_name_after_error(output)?;
@@ -69,7 +61,7 @@ impl<const N: usize> Parser<'_, N> {
     }
 
     /// Reads and prints the name after the path that it is in, which ends its own path.
-    #[inline(always)]
+    #[cfg_attr(not(debug_assertions), inline(always))]
     pub(super) fn nested_name<V: Output>(
         &mut self,
         output: &mut V,
@@ -78,7 +70,7 @@ impl<const N: usize> Parser<'_, N> {
             return self.name_after_error(output);
         };
         let is_special = is_special(self.state.letter);
-        let named = name_at(self.source.symbol, is_special, at, &mut self.looks);
+        let named = name_at(self.source.symbol, is_special, at);
         let (ident, number, next) = named.ok_or(StepError::Abort(FixedText::Invalid))?;
         self.state.place = Some(next);
         self.state.is_bracket_open = false;

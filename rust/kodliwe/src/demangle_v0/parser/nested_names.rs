@@ -11,11 +11,11 @@ use crate::demangle_v0_tokens::output::Output;
 /// them print their names alike.
 const PLAIN_LETTER: u8 = b'v';
 
-impl<const N: usize> Parser<'_, N> {
+impl Parser<'_, '_> {
     /// Pushes the frames of `count` nested paths, one in another. `outer` levels of nesting are
     /// allowed before the first. No name of them is special.
     // Most other paths than that of a crate are in none, and need no call.
-    #[inline(always)]
+    #[cfg_attr(not(debug_assertions), inline(always))]
     pub(super) fn push_names(&mut self, count: u16, outer: u16) {
         if count > 0 {
             self.push_each_name(count, outer);
@@ -38,7 +38,7 @@ impl<const N: usize> Parser<'_, N> {
 
     /// Reads and prints the names of `count` nested paths, one in another, after the path that they
     /// are in.
-    #[inline(always)]
+    #[cfg_attr(not(debug_assertions), inline(always))]
     fn plain_names<V: Output>(
         &mut self,
         count: u16,
@@ -46,7 +46,7 @@ impl<const N: usize> Parser<'_, N> {
         output: &mut V,
     ) -> Result<Continuation, StepError> {
         let mut left = count;
-        'names: while left > 0 {
+        while left > 0 {
             left -= 1;
             self.state.letter = PLAIN_LETTER;
             self.state.depth_left = outer - left - 1;
@@ -60,7 +60,7 @@ impl<const N: usize> Parser<'_, N> {
 
     /// Reads and prints the names of `count` nested paths after the path that they are in, which
     /// was performed with this result.
-    #[inline(always)]
+    #[cfg_attr(not(debug_assertions), inline(always))]
     pub(super) fn names_after<V: Output>(
         &mut self,
         performed: Result<Continuation, StepError>,

@@ -21,9 +21,9 @@ pub enum OutOfLine {
     Field,
 }
 
-impl<const N: usize> Parser<'_, N> {
+impl Parser<'_, '_> {
     /// Performs a continuation that few symbols have, by a call.
-    #[inline(always)]
+    #[cfg_attr(not(debug_assertions), inline(always))]
     fn call_out_of_line<V: Output>(
         &mut self,
         continuation: OutOfLine,
@@ -44,7 +44,7 @@ impl<const N: usize> Parser<'_, N> {
     }
 
     /// Performs a continuation that few symbols have.
-    #[inline(always)]
+    #[cfg_attr(not(debug_assertions), inline(always))]
     pub(super) fn out_of_line<V: Output>(
         &mut self,
         continuation: OutOfLine,

@@ -7,9 +7,9 @@ use crate::demangle_v0_tokens::fixed_texts::FixedText;
 use crate::demangle_v0_tokens::output::Output;
 use crate::demangle_v0_tokens::tags::{PathKind, path_kind};
 
-impl<const N: usize> Parser<'_, N> {
+impl Parser<'_, '_> {
     /// Starts the path that has generic arguments, after its `I`.
-    #[inline(always)]
+    #[cfg_attr(not(debug_assertions), inline(always))]
     fn generic_path(&mut self) -> Continuation {
         self.push(Continuation::Generic);
         Continuation::Path
@@ -17,7 +17,7 @@ impl<const N: usize> Parser<'_, N> {
 
     /// Starts a path after its tag, which is not that of a nested path. It fails if no path has this
     /// tag.
-    #[inline(always)]
+    #[cfg_attr(not(debug_assertions), inline(always))]
     fn tagged_path<V: Output>(
         &mut self,
         tag: u8,
@@ -45,7 +45,7 @@ impl<const N: usize> Parser<'_, N> {
     /// Fails if a part that it reads has an error, if the depth is used up, or if the output rejects
     /// a piece.
     // Most paths are nested in two or three others, and their names need no steps of their own.
-    #[inline(always)]
+    #[cfg_attr(not(debug_assertions), inline(always))]
     pub(super) fn path<V: Output>(
         &mut self,
         defers: bool,
@@ -56,9 +56,9 @@ impl<const N: usize> Parser<'_, N> {
         let mut count: u16 = 0;
         // The depth is tested before the tag here, and after it for a type or a constant. The Rust
         // crate reports errors in this order.
-        'paths: while count < outer {
+        while count < outer {
             let left = outer - count - 1;
-            let Ok((tag, next)) = self.source.symbol.tag(at, &mut self.looks) else {
+            let Ok((tag, next)) = self.source.symbol.tag(at) else {
                 self.push_names(count, outer);
                 return Err(StepError::Abort(FixedText::Invalid));
             };
@@ -75,13 +75,13 @@ impl<const N: usize> Parser<'_, N> {
                 self.push_names(count, outer);
                 return self.tagged_path(tag, output);
             }
-            let Ok((letter, after)) = self.source.symbol.namespace(next, &mut self.looks) else {
+            let Ok((letter, after)) = self.source.symbol.namespace(next) else {
                 self.push_names(count, outer);
                 return Err(StepError::Abort(FixedText::Invalid));
             };
             if !defers
                 | letter.is_ascii_uppercase()
-                | (N - self.stack.len() <= usize::from(count) + 1)
+                | (self.stack.room_left() <= usize::from(count) + 1)
             {
                 self.push_names(count, outer);
                 self.state.depth_left = left;

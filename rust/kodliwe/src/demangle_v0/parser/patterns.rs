@@ -6,14 +6,14 @@ use crate::demangle_v0::parser::{Continuation, StepError};
 use crate::demangle_v0_tokens::fixed_texts::FixedText;
 use crate::demangle_v0_tokens::tags::{PatternKind, pattern_kind};
 
-impl<const N: usize> Parser<'_, N> {
+impl Parser<'_, '_> {
     /// Reads the tag of a pattern, and starts the first constant or pattern in it.
     ///
     /// `NotNull` has neither, so the pattern ends with its text.
-    #[inline(always)]
+    #[cfg_attr(not(debug_assertions), inline(always))]
     pub(super) fn pattern(&mut self) -> Result<Continuation, StepError> {
         let at = self.state.place_or_abort()?;
-        let (tag, next) = self.source.symbol.tag(at, &mut self.looks)?;
+        let (tag, next) = self.source.symbol.tag(at)?;
         let kind = pattern_kind(tag).ok_or(StepError::Abort(FixedText::Invalid))?;
         self.state.place = Some(next);
         match kind {
@@ -35,13 +35,13 @@ impl<const N: usize> Parser<'_, N> {
     /// Starts a further pattern after `|`, or ends at an `E`.
     ///
     /// After an error it fails with a new error.
-    #[inline(always)]
+    #[cfg_attr(not(debug_assertions), inline(always))]
     pub(super) fn next_pattern(&mut self) -> Result<Continuation, StepError> {
         let at = self
             .state
             .place
             .ok_or(StepError::Abort(FixedText::Invalid))?;
-        if self.source.symbol.is_at(b'E', at, &mut self.looks) {
+        if self.source.symbol.is_at(b'E', at) {
             self.state.place = Some(at + 1);
             self.state.is_bracket_open = false;
             return Ok(Continuation::End);

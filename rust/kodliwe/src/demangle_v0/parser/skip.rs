@@ -1,24 +1,38 @@
 // Made from crates/demangle_v0/src/parser/skip.rt by packaging/crate/erase.py: edit that file instead.
 //! Parts that a printing parse reads and does not print: impl paths, and folded arguments.
 
+use crate::demangle_symbol::form::Form;
 use crate::demangle_v0::parser::machine::Parser;
 use crate::demangle_v0::parser::steps::{Checkpoint, ReadOutcome};
 use crate::demangle_v0::parser::{Continuation, State};
 use crate::demangle_v0::printer::Unfinished;
 
-/// Returns whether a part that is not printed is next: an impl path, or generic arguments if they
-/// are folded.
-#[inline(always)]
-pub fn is_skipped(continuation: Continuation, fold_arguments: bool) -> bool {
+/// Returns whether an impl path is next, or generic arguments if they are folded.
+// It is not inlined, so that the loop of printing has one test for the four continuations.
+#[inline(never)]
+fn is_left_out(continuation: Continuation, form: Form) -> bool {
     match continuation {
         Continuation::InherentImplPath | Continuation::TraitImplPath => true,
-        Continuation::FirstArgument | Continuation::FirstTraitArgument => fold_arguments,
+        Continuation::FirstArgument | Continuation::FirstTraitArgument => form.fold_arguments,
+        _ => false,
+    }
+}
+
+/// Returns whether a part that is not printed is next: an impl path, or generic arguments if they
+/// are folded.
+#[cfg_attr(not(debug_assertions), inline(always))]
+pub fn is_skipped(continuation: Continuation, form: Form) -> bool {
+    match continuation {
+        Continuation::InherentImplPath
+        | Continuation::TraitImplPath
+        | Continuation::FirstArgument
+        | Continuation::FirstTraitArgument => is_left_out(continuation, form),
         _ => false,
     }
 }
 
 /// Returns the continuation that reads such a part.
-#[inline(always)]
+#[cfg_attr(not(debug_assertions), inline(always))]
 fn skipped_continuation(continuation: Continuation) -> Continuation {
     match continuation {
         Continuation::InherentImplPath | Continuation::TraitImplPath => Continuation::Path,
@@ -27,7 +41,7 @@ fn skipped_continuation(continuation: Continuation) -> Continuation {
 }
 
 /// Returns the continuation after such a part.
-#[inline(always)]
+#[cfg_attr(not(debug_assertions), inline(always))]
 fn after_skip(continuation: Continuation) -> Continuation {
     match continuation {
         Continuation::InherentImplPath => Continuation::InherentSelfType,
@@ -38,10 +52,10 @@ fn after_skip(continuation: Continuation) -> Continuation {
     }
 }
 
-impl<const N: usize> Parser<'_, N> {
+impl Parser<'_, '_> {
     /// Continues at a checkpoint, after the part there that is not printed. The part ends at
     /// `place`, or has a syntax error if that is `None`.
-    #[inline(always)]
+    #[cfg_attr(not(debug_assertions), inline(always))]
     fn continue_after(&mut self, printing: Checkpoint, place: Option<usize>) {
         self.continuation = after_skip(printing.continuation);
         self.state = State {
@@ -74,7 +88,7 @@ impl<const N: usize> Parser<'_, N> {
 
     /// Reads the impl path or the folded arguments at which the parser is, and continues after
     /// them. Returns what is left to print if the stack is full before they end.
-    #[inline(always)]
+    #[cfg_attr(not(debug_assertions), inline(always))]
     pub(crate) fn skip_impl_path(&mut self) -> Option<Unfinished> {
         let base = self.stack.len();
         let printing = Checkpoint {

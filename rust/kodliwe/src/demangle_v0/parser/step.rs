@@ -10,7 +10,7 @@ use crate::demangle_v0_tokens::token::Token;
 
 impl State {
     /// Restores the state that a frame saved.
-    #[inline(always)]
+    #[cfg_attr(not(debug_assertions), inline(always))]
     fn resume(&mut self, frame: Frame) {
         self.in_value = frame.in_value;
         self.letter = frame.letter;
@@ -19,9 +19,9 @@ impl State {
     }
 }
 
-impl<const N: usize> Parser<'_, N> {
+impl Parser<'_, '_> {
     /// Prints the fixed text that a continuation queued, if there is one.
-    #[inline(always)]
+    #[cfg_attr(not(debug_assertions), inline(always))]
     fn flush_pending_text<V: Output>(&mut self, output: &mut V) -> Result<(), SinkRefused> {
         let pending_text = self.state.pending_text;
         // Most iterations leave none. A parse without output clears it untested, which costs less.
@@ -30,9 +30,7 @@ impl<const N: usize> Parser<'_, N> {
         }
         match pending_text {
             None => Ok(()),
-            Some(pending_text) => {
-                output.emit(&self.source, &Token::Fixed(pending_text), &mut self.looks)
-            }
+            Some(pending_text) => output.emit(&self.source, &Token::Fixed(pending_text)),
         }
     }
 
@@ -42,7 +40,7 @@ impl<const N: usize> Parser<'_, N> {
     ///
     /// Fails if the output does. A parse that prints never runs an impl path or folded arguments
     /// here, because those are not printed.
-    #[inline(always)]
+    #[cfg_attr(not(debug_assertions), inline(always))]
     pub(crate) fn steps<V: Output>(
         &mut self,
         continuation: Continuation,
@@ -57,7 +55,9 @@ impl<const N: usize> Parser<'_, N> {
             Err(StepError::Abort(fault)) => {
                 self.state.place = None;
                 self.state.is_bracket_open = false;
-                output.emit_error(&self.source, &Token::Fixed(fault), &mut self.looks)?;
+                // A symbol is not accepted by printing after an error.
+                self.fuel = 0;
+                output.emit_error(&self.source, &Token::Fixed(fault))?;
                 Ok(Continuation::End)
             }
             Err(StepError::Sink) => Err(SinkRefused),
@@ -66,7 +66,7 @@ impl<const N: usize> Parser<'_, N> {
 
     /// Returns the next continuation. After the end of a production it is that of the frame on top,
     /// which is removed, or `None` if only `base` frames are left.
-    #[inline(always)]
+    #[cfg_attr(not(debug_assertions), inline(always))]
     pub(crate) fn resume(
         &mut self,
         base: usize,
@@ -77,9 +77,7 @@ impl<const N: usize> Parser<'_, N> {
                 if self.stack.len() <= base {
                     return None;
                 }
-                let Some(frame) = self.stack.pop() else {
-                    return None;
-                };
+                let frame = self.stack.pop()?;
                 self.state.resume(frame);
                 Some(frame.continuation)
             }

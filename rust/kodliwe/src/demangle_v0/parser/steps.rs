@@ -15,7 +15,7 @@ pub struct Checkpoint {
 
 impl State {
     /// Returns the checkpoint before the path at a place.
-    #[inline(always)]
+    #[cfg_attr(not(debug_assertions), inline(always))]
     pub(super) fn at_path(place: usize) -> Self {
         State {
             in_value: true,
@@ -40,16 +40,16 @@ pub enum ReadOutcome {
     Failed,
 }
 
-impl<const N: usize> Parser<'_, N> {
+impl Parser<'_, '_> {
     /// Continues with the path at a place.
-    #[inline(always)]
+    #[cfg_attr(not(debug_assertions), inline(always))]
     pub(crate) fn start_path(&mut self, place: usize) {
         self.continuation = Continuation::Path;
         self.state = State::at_path(place);
     }
 
     /// Returns the place of the next byte, or `None` after an error.
-    #[inline(always)]
+    #[cfg_attr(not(debug_assertions), inline(always))]
     pub(crate) fn place(&self) -> Option<usize> {
         self.state.place
     }
@@ -58,7 +58,7 @@ impl<const N: usize> Parser<'_, N> {
     /// symbol has a syntax error.
     pub(crate) fn read_steps(&mut self, base: usize) -> ReadOutcome {
         let mut continuation = self.continuation;
-        'steps: while self.stack.len() < N {
+        while self.stack.has_room() {
             let Some(at) = self.resume(base, continuation) else {
                 self.continuation = Continuation::End;
                 return ReadOutcome::Complete;

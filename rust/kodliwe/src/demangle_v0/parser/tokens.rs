@@ -8,23 +8,23 @@ use crate::demangle_v0_tokens::output::Output;
 use crate::demangle_v0_tokens::read::{TokenOutcome, TokenReader};
 use crate::demangle_v0_tokens::token::{Token, TokenKind};
 
-impl<const N: usize> Parser<'_, N> {
+impl Parser<'_, '_> {
     /// Passes a token to the output.
     ///
     /// It fails if the output does.
-    #[inline(always)]
+    #[cfg_attr(not(debug_assertions), inline(always))]
     pub(super) fn emit<V: Output>(
         &mut self,
         token: &Token,
         output: &mut V,
     ) -> Result<(), SinkRefused> {
-        output.emit(&self.source, token, &mut self.looks)
+        output.emit(&self.source, token)
     }
 
     /// Reads the token at the current offset, and prints nothing.
     ///
     /// Lifetimes are only checked if `output` prints.
-    #[inline(always)]
+    #[cfg_attr(not(debug_assertions), inline(always))]
     pub(super) fn token_at<V: Output>(
         &mut self,
         token_kind: TokenKind,
@@ -36,11 +36,11 @@ impl<const N: usize> Parser<'_, N> {
             is_printing: output.is_printing(),
             lifetimes: self.state.lifetimes,
         };
-        reader.read_token(token_kind, self.state.place, &mut self.looks)
+        reader.read_token(token_kind, self.state.place)
     }
 
     /// Reads and prints the last token of a production.
-    #[inline(always)]
+    #[cfg_attr(not(debug_assertions), inline(always))]
     pub(super) fn end_with_token<V: Output>(
         &mut self,
         token_kind: TokenKind,

@@ -5,16 +5,16 @@ use crate::demangle_v0::parser::Continuation;
 use crate::demangle_v0::parser::machine::Parser;
 use crate::demangle_v0_tokens::fixed_texts::FixedText;
 
-impl<const N: usize> Parser<'_, N> {
+impl Parser<'_, '_> {
     /// Queues the `(` of a tuple, after its `T`.
-    #[inline(always)]
+    #[cfg_attr(not(debug_assertions), inline(always))]
     pub(super) fn tuple_type(&mut self) -> Continuation {
         self.put(FixedText::OpenParen);
         Continuation::FirstTupleType
     }
 
     /// Starts the first type of a tuple, or ends the tuple.
-    #[inline(always)]
+    #[cfg_attr(not(debug_assertions), inline(always))]
     pub(super) fn first_tuple_type(&mut self) -> Continuation {
         if self.ends_list() {
             return self.end_with(FixedText::CloseParen);
@@ -24,7 +24,7 @@ impl<const N: usize> Parser<'_, N> {
     }
 
     /// Starts the second type of a tuple, or queues the comma after the only one.
-    #[inline(always)]
+    #[cfg_attr(not(debug_assertions), inline(always))]
     pub(super) fn second_tuple_type(&mut self) -> Continuation {
         if self.ends_list() {
             // `(T,)` is a tuple. `(T)` would be the type `T` in parentheses.
@@ -37,7 +37,7 @@ impl<const N: usize> Parser<'_, N> {
     }
 
     /// Starts a further type of a tuple, or ends the tuple.
-    #[inline(always)]
+    #[cfg_attr(not(debug_assertions), inline(always))]
     pub(super) fn next_tuple_type(&mut self) -> Continuation {
         if self.ends_list() {
             return self.end_with(FixedText::CloseParen);

@@ -8,20 +8,17 @@ use crate::demangle_v0_tokens::output::Output;
 use crate::demangle_v0_tokens::tags::{ConstructedType, TypeKind, type_kind};
 
 /// Returns `true` if the type begins here. Otherwise its `w` was read, and the rest follows.
-#[inline(always)]
+#[cfg_attr(not(debug_assertions), inline(always))]
 pub(super) fn may_have_splat(continuation: Continuation) -> bool {
-    match continuation {
-        Continuation::TaggedType => false,
-        _ => true,
-    }
+    !matches!(continuation, Continuation::TaggedType)
 }
 
-impl<const N: usize> Parser<'_, N> {
+impl Parser<'_, '_> {
     /// Reads a type up to its first nested type or path.
     ///
     /// If the type begins here and has a `w`, only the `w` is read, and the rest is left for the
     /// next step. Fails after an error, at the end of the symbol, and if no depth is left.
-    #[inline(always)]
+    #[cfg_attr(not(debug_assertions), inline(always))]
     pub(super) fn type_<V: Output>(
         &mut self,
         may_have_splat: bool,
@@ -30,7 +27,7 @@ impl<const N: usize> Parser<'_, N> {
         let Some(at) = self.state.place else {
             return Err(StepError::Abort(FixedText::AfterError));
         };
-        let Some(tag) = self.source.symbol.byte(at, &mut self.looks) else {
+        let Some(tag) = self.source.symbol.byte(at) else {
             return Err(StepError::Abort(FixedText::Invalid));
         };
         // A basic type does not raise the depth, so it can be read at the limit.
@@ -65,7 +62,7 @@ impl<const N: usize> Parser<'_, N> {
     /// Starts a type that is not basic, after its tag.
     // References and tuples nest deepest, and back references repeat them. So only these do not need a
     // call.
-    #[inline(always)]
+    #[cfg_attr(not(debug_assertions), inline(always))]
     fn type_after_tag<V: Output>(
         &mut self,
         kind: TypeKind,
@@ -122,7 +119,7 @@ impl<const N: usize> Parser<'_, N> {
     }
 
     /// Pushes a frame that does nothing but print, if `output` prints.
-    #[inline(always)]
+    #[cfg_attr(not(debug_assertions), inline(always))]
     pub(super) fn push_if_printing<V: Output>(&mut self, continuation: Continuation, output: &V) {
         if output.is_printing() {
             self.push(continuation);
@@ -130,7 +127,7 @@ impl<const N: usize> Parser<'_, N> {
     }
 
     /// Queues the `; ` after the element type of an array. Its length follows.
-    #[inline(always)]
+    #[cfg_attr(not(debug_assertions), inline(always))]
     pub(super) fn array_length<V: Output>(&mut self, output: &mut V) -> Continuation {
         self.push_if_printing(Continuation::CloseBracket, output);
         self.put(FixedText::Semicolon);

@@ -9,9 +9,9 @@ use crate::demangle_v0_tokens::read::TokenOutcome;
 use crate::demangle_v0_tokens::tags::{VariantKind, variant_kind};
 use crate::demangle_v0_tokens::token::TokenKind;
 
-impl<const N: usize> Parser<'_, N> {
+impl Parser<'_, '_> {
     /// Ends a variant without fields, and queues its closing brace outside value position.
-    #[inline(always)]
+    #[cfg_attr(not(debug_assertions), inline(always))]
     fn unit_variant(&mut self) -> Continuation {
         self.state.is_bracket_open = false;
         if self.state.in_value {
@@ -24,7 +24,7 @@ impl<const N: usize> Parser<'_, N> {
     /// Queues the text that opens a variant's fields, and returns `fields`.
     ///
     /// Outside value position it also pushes a frame for the variant's closing brace.
-    #[inline(always)]
+    #[cfg_attr(not(debug_assertions), inline(always))]
     fn open_fields(&mut self, pending_text: FixedText, fields: Continuation) -> Continuation {
         if !self.state.in_value {
             self.push(Continuation::CloseBrace);
@@ -37,7 +37,7 @@ impl<const N: usize> Parser<'_, N> {
     #[inline(never)]
     pub(super) fn variant(&mut self) -> Result<Continuation, StepError> {
         let at = self.state.place_or_abort()?;
-        let (tag, next) = self.source.symbol.tag(at, &mut self.looks)?;
+        let (tag, next) = self.source.symbol.tag(at)?;
         let kind = variant_kind(tag).ok_or(StepError::Abort(FixedText::Invalid))?;
         self.state.place = Some(next);
         match kind {

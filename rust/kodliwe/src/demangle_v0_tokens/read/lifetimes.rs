@@ -1,14 +1,13 @@
 // Made from crates/demangle_v0_tokens/src/read/lifetimes.rt by packaging/crate/erase.py: edit that file instead.
 //! Reads lifetimes, by their index.
 
-use crate::demangle_symbol::cursor::Looks;
 use crate::demangle_v0_tokens::read::{TokenOutcome, TokenReader, invalid_token, token_read};
 use crate::demangle_v0_tokens::token::Token;
 
 impl TokenReader<'_> {
     /// Returns the token of a lifetime whose index is not 0. If tokens are printed, an index that
     /// exceeds the lifetimes in scope is an error.
-    #[inline(always)]
+    #[cfg_attr(not(debug_assertions), inline(always))]
     fn checked_lifetime(
         &self,
         index: u64,
@@ -28,9 +27,9 @@ impl TokenReader<'_> {
     }
 
     /// Reads a lifetime, by its index: `_` for 0.
-    #[inline(always)]
-    pub(super) fn read_lifetime(&self, place: usize, looks: &mut Looks) -> TokenOutcome {
-        let Ok((index, next)) = self.symbol.integer_62(place, looks) else {
+    #[cfg_attr(not(debug_assertions), inline(always))]
+    pub(super) fn read_lifetime(&self, place: usize) -> TokenOutcome {
+        let Ok((index, next)) = self.symbol.integer_62(place) else {
             return invalid_token();
         };
         if index == 0 {
@@ -43,12 +42,12 @@ impl TokenReader<'_> {
     }
 
     /// Reads the lifetime of a dyn type, which may not be missing. That of index 0 is not printed.
-    #[inline(always)]
-    pub(super) fn read_dyn_lifetime(&self, place: usize, looks: &mut Looks) -> TokenOutcome {
-        if !self.symbol.is_at(b'L', place, looks) {
+    #[cfg_attr(not(debug_assertions), inline(always))]
+    pub(super) fn read_dyn_lifetime(&self, place: usize) -> TokenOutcome {
+        if !self.symbol.is_at(b'L', place) {
             return invalid_token();
         }
-        let Ok((index, next)) = self.symbol.integer_62(place + 1, looks) else {
+        let Ok((index, next)) = self.symbol.integer_62(place + 1) else {
             return invalid_token();
         };
         if index == 0 {

@@ -2,7 +2,7 @@
 //! Prints the qualifiers of function types: `unsafe`, and the ABI.
 
 use crate::demangle_sink::{SinkRefused, SizeLimitedFmtAdapter, TextSink, put_each};
-use crate::demangle_symbol::cursor::{Looks, Part};
+use crate::demangle_symbol::cursor::Part;
 use crate::demangle_v0_tokens::source::Source;
 use crate::demangle_v0_tokens::token::Abi;
 
@@ -23,11 +23,10 @@ impl Source<'_> {
         &self,
         name: Part,
         out: &mut SizeLimitedFmtAdapter<'_, S>,
-        looks: &mut Looks,
     ) -> Result<(), SinkRefused> {
         let mut from = name.from;
         for at in name.from..name.to {
-            if self.symbol.is_at(b'_', at, looks) {
+            if self.symbol.is_at(b'_', at) {
                 self.put_with_hyphen(Part { from, to: at }, out)?;
                 from = at + 1;
             }
@@ -41,10 +40,9 @@ impl Source<'_> {
         &self,
         name: Part,
         out: &mut SizeLimitedFmtAdapter<'_, S>,
-        looks: &mut Looks,
     ) -> Result<(), SinkRefused> {
         out.put("extern \"")?;
-        self.put_abi_name(name, out, looks)?;
+        self.put_abi_name(name, out)?;
         out.put("\" ")
     }
 
@@ -53,12 +51,11 @@ impl Source<'_> {
         &self,
         abi: Abi,
         out: &mut SizeLimitedFmtAdapter<'_, S>,
-        looks: &mut Looks,
     ) -> Result<(), SinkRefused> {
         match abi {
             Abi::Rust => Ok(()),
             Abi::C => put_each(&["extern \"", "C", "\" "], out),
-            Abi::Named(name) => self.put_extern(name, out, looks),
+            Abi::Named(name) => self.put_extern(name, out),
         }
     }
 
@@ -69,12 +66,11 @@ impl Source<'_> {
         is_unsafe: bool,
         abi: Abi,
         out: &mut SizeLimitedFmtAdapter<'_, S>,
-        looks: &mut Looks,
     ) -> Result<(), SinkRefused> {
         if !is_unsafe {
-            return self.put_abi(abi, out, looks);
+            return self.put_abi(abi, out);
         }
         out.put("unsafe ")?;
-        self.put_abi(abi, out, looks)
+        self.put_abi(abi, out)
     }
 }

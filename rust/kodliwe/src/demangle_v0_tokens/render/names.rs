@@ -2,7 +2,8 @@
 //! Prints names, with the texts before and after them.
 
 use crate::demangle_sink::{SinkRefused, SizeLimitedFmtAdapter, TextSink, put_char};
-use crate::demangle_symbol::cursor::{Ident, Looks};
+use crate::demangle_symbol::cursor::Ident;
+use crate::demangle_symbol::form::Form;
 use crate::demangle_v0_tokens::render::numbers;
 use crate::demangle_v0_tokens::source::Source;
 
@@ -20,10 +21,10 @@ pub(super) struct NamespacedName {
 #[inline(never)]
 fn put_disambiguator<S: TextSink>(
     number: u64,
-    include_hash: bool,
+    form: Form,
     out: &mut SizeLimitedFmtAdapter<'_, S>,
 ) -> Result<(), SinkRefused> {
-    if !include_hash {
+    if !form.include_hash {
         return Ok(());
     }
     if number == 0 {
@@ -66,42 +67,37 @@ fn put_special_suffix<S: TextSink>(
 
 impl Source<'_> {
     /// Prints the name of a crate, and its disambiguator after it.
-    #[inline(always)]
+    #[cfg_attr(not(debug_assertions), inline(always))]
     pub(super) fn put_crate_name<S: TextSink>(
         &self,
         name: &Ident,
         number: u64,
         out: &mut SizeLimitedFmtAdapter<'_, S>,
-        looks: &mut Looks,
     ) -> Result<(), SinkRefused> {
-        name.write_to(self.symbol, out, looks)?;
-        put_disambiguator(number, self.include_hash, out)
+        name.write_to(self.symbol, out)?;
+        put_disambiguator(number, self.form, out)
     }
 
     /// Returns `true` if both parts of a name are empty.
-    #[inline(always)]
+    #[cfg_attr(not(debug_assertions), inline(always))]
     fn is_empty_name(&self, name: &Ident) -> bool {
-        if self.symbol.span(name.ascii).len() > 0 {
-            return false;
-        }
-        self.symbol.span(name.punycode).len() == 0
+        name.ascii.to <= name.ascii.from && name.punycode.to <= name.punycode.from
     }
 
     /// Prints a text, and a name after it. It prints nothing if the name is empty.
-    #[inline(always)]
+    #[cfg_attr(not(debug_assertions), inline(always))]
     fn put_prefixed_name<S: TextSink>(
         &self,
         before: &str,
         name: &Ident,
         out: &mut SizeLimitedFmtAdapter<'_, S>,
-        looks: &mut Looks,
     ) -> Result<(), SinkRefused> {
         // A name may be empty, as a closure's is. Then the text before it is omitted too.
         if self.is_empty_name(name) {
             return Ok(());
         }
         out.put(before)?;
-        name.write_to(self.symbol, out, looks)
+        name.write_to(self.symbol, out)
     }
 
     /// Prints a name in a special namespace, and its disambiguator.
@@ -111,26 +107,24 @@ impl Source<'_> {
         &self,
         name: NamespacedName,
         out: &mut SizeLimitedFmtAdapter<'_, S>,
-        looks: &mut Looks,
     ) -> Result<(), SinkRefused> {
         out.put("::{")?;
         put_special_kind(name.namespace, out)?;
-        self.put_prefixed_name(":", &name.ident, out, looks)?;
+        self.put_prefixed_name(":", &name.ident, out)?;
         put_special_suffix(name.number, out)
     }
 
     /// Prints a name in a namespace, with `::` before it. An empty name prints nothing, unless the
     /// namespace is special.
-    #[inline(always)]
+    #[cfg_attr(not(debug_assertions), inline(always))]
     pub(super) fn put_nested_name<S: TextSink>(
         &self,
         name: NamespacedName,
         out: &mut SizeLimitedFmtAdapter<'_, S>,
-        looks: &mut Looks,
     ) -> Result<(), SinkRefused> {
         match name.namespace {
-            b'A'..=b'Z' => self.put_special_name(name, out, looks),
-            _ => self.put_prefixed_name("::", &name.ident, out, looks),
+            b'A'..=b'Z' => self.put_special_name(name, out),
+            _ => self.put_prefixed_name("::", &name.ident, out),
         }
     }
 
@@ -140,9 +134,8 @@ impl Source<'_> {
         &self,
         name: &Ident,
         out: &mut SizeLimitedFmtAdapter<'_, S>,
-        looks: &mut Looks,
     ) -> Result<(), SinkRefused> {
-        name.write_to(self.symbol, out, looks)?;
+        name.write_to(self.symbol, out)?;
         out.put(" = ")
     }
 }

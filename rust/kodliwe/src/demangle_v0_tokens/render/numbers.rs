@@ -30,7 +30,7 @@ static DIGIT_PAIRS_16: [u8; 512] = *b"\
 ";
 
 /// Writes all 16 hexadecimal digits of a number, and returns how many leading zeros to omit.
-#[inline(always)]
+#[cfg_attr(not(debug_assertions), inline(always))]
 fn write_hexadecimal(number: u64, text: &mut [u8; 16]) -> usize {
     let mut pairs = 8;
     let mut rest = number;
@@ -46,7 +46,7 @@ fn write_hexadecimal(number: u64, text: &mut [u8; 16]) -> usize {
 }
 
 /// Prints a number in hexadecimal digits, as one piece.
-#[inline(always)]
+#[cfg_attr(not(debug_assertions), inline(always))]
 pub(super) fn put_hexadecimal<S: TextSink>(
     number: u64,
     out: &mut SizeLimitedFmtAdapter<'_, S>,
@@ -97,7 +97,7 @@ impl Source<'_> {
         tag: u8,
         out: &mut SizeLimitedFmtAdapter<'_, S>,
     ) -> Result<(), SinkRefused> {
-        if !self.include_hash {
+        if !self.form.include_hash {
             return Ok(());
         }
         match basic_type_text(tag) {

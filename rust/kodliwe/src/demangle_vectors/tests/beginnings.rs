@@ -4,17 +4,17 @@ use super::printed_by;
 use super::vectors::texts;
 use crate::rustc_demangle::{demangle, demangle_bytes, demangle_stream, try_demangle};
 use crate::support::alloc::Global;
-use crate::support::process::Abort;
 use crate::support::rt::HostRuntime;
-use crate::support::test::Fail;
 use crate::support::vec::CollectIn;
 use crate::support::vec::Vec;
-use crate::test_doubles::streams::ChunkReader;
 use std::io::ErrorKind;
+
+use crate::support::test::Fail;
+use crate::test_doubles::streams::ChunkReader;
 
 /// Asserts the printed form of a text. A rejected text prints itself, an accepted one prints the
 /// same by both calls, and stripping a second time changes nothing.
-fn assert_printed(rt: &impl Abort, alloc: Global, text: &str) -> Result<(), Fail> {
+fn assert_printed(alloc: Global, text: &str) -> Result<(), Fail> {
     let symbol = demangle(text);
     let stripped = symbol.as_str();
     // If nothing was stripped, there is nothing more to strip.
@@ -90,7 +90,7 @@ fn each_prefix_of_a_symbol_is_accepted() -> Result<(), Fail> {
         let text = text.as_str();
         for len in 0..=text.len() {
             if let Some(beginning) = text.get(..len) {
-                assert_printed(&rt, alloc, beginning)?;
+                assert_printed(alloc, beginning)?;
             }
         }
     }
@@ -117,6 +117,11 @@ fn the_stream_writes_for_each_prefix_what_the_crate_writes() -> Result<(), Fail>
     Ok(())
 }
 
+/// Returns whether the path of a symbol took the place of a `_` before it.
+fn takes_underscore(text: &str, output: &[u8]) -> bool {
+    (text.starts_with("__ZN") || text.starts_with("__R")) && output != text.as_bytes()
+}
+
 #[test]
 fn chunks_of_any_size_give_what_the_crate_writes() -> Result<(), Fail> {
     let rt = HostRuntime;
@@ -128,6 +133,10 @@ fn chunks_of_any_size_give_what_the_crate_writes() -> Result<(), Fail> {
             for len in 0..=text.len() {
                 if let Some(beginning) = text.get(..len) {
                     let output = filter_parts(alloc, beginning, size, *include_hash)?;
+                    // The crate keeps the `_` that macOS writes before a symbol.
+                    if takes_underscore(beginning, output.as_slice()) {
+                        digest = digest_of(digest, b"_");
+                    }
                     digest = digest_of(digest_of(digest, output.as_slice()), b"\n");
                 }
             }

@@ -6,18 +6,17 @@ use crate::rustc_demangle::{
     BytesFilter, StreamFault, SymbolMemo, demangle_bytes, demangle_bytes_limited,
 };
 use crate::support::alloc::Global;
-use crate::support::process::Abort;
 use crate::support::rt::HostRuntime;
-use crate::support::test::Fail;
 use crate::support::vec::CollectIn;
 use crate::support::vec::Vec;
-use crate::test_doubles::streams::{ChunkReader, FailingWriter};
 use std::io;
 use std::io::{BufRead, ErrorKind, Read, Write};
 
+use crate::support::test::Fail;
+use crate::test_doubles::streams::{ChunkReader, FailingWriter};
+
 /// Asserts the output for bytes that are read in chunks of `size`.
-fn assert_filters(
-    rt: &impl Abort,
+pub(super) fn assert_filters(
     alloc: Global,
     text: &[u8],
     size: usize,
@@ -38,8 +37,8 @@ fn the_rows_of_the_stream_in_chunks_of_each_size() -> Result<(), Fail> {
     let rt = HostRuntime;
     for (text, wanted) in ROWS {
         for size in 1..=text.len().saturating_add(1) {
-            assert_filters(&rt, rt.alloc(), text, size, true, wanted)?;
-            assert_filters(&rt, rt.alloc(), text, size, false, wanted)?;
+            assert_filters(rt.alloc(), text, size, true, wanted)?;
+            assert_filters(rt.alloc(), text, size, false, wanted)?;
         }
     }
     Ok(())
@@ -62,7 +61,7 @@ fn bytes_between_symbols_are_kept() -> Result<(), Fail> {
     ];
     for (text, wanted) in cases {
         for size in 1..=text.len() {
-            assert_filters(&rt, rt.alloc(), text, size, true, wanted)?;
+            assert_filters(rt.alloc(), text, size, true, wanted)?;
         }
     }
     Ok(())
@@ -74,14 +73,13 @@ fn a_hash_is_left_out_of_bytes() -> Result<(), Fail> {
     let text = b"\xE9<_ZN3foo17h05af221e174051e9E>\n".as_slice();
     for size in [1, 2, 3, 64] {
         assert_filters(
-            &rt,
             rt.alloc(),
             text,
             size,
             true,
             b"\xE9<foo::h05af221e174051e9>\n",
         )?;
-        assert_filters(&rt, rt.alloc(), text, size, false, b"\xE9<foo>\n")?;
+        assert_filters(rt.alloc(), text, size, false, b"\xE9<foo>\n")?;
     }
     Ok(())
 }

@@ -8,9 +8,9 @@ use crate::rustc_demangle::{
 use crate::support::alloc::{AllocError, Global};
 use crate::support::format;
 use crate::support::rt::HostRuntime;
-use crate::support::string::RepeatIn;
 use crate::support::string::String;
 use crate::support::test::Fail;
+use crate::support::texts::RepeatIn;
 use crate::support::vec::CollectIn;
 use crate::support::vec::Vec;
 use crate::test_doubles::streams::{ChunkReader, RESET};

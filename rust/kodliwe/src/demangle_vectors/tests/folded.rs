@@ -4,23 +4,21 @@ use super::repeats::repeated;
 use super::{assert_rejected, repeat_between};
 use crate::rustc_demangle::sink::ArraySink;
 use crate::rustc_demangle::{
-    Format, Looks, demangle, demangle_bytes_formatted, demangle_slice_formatted,
-    demangle_text_formatted,
+    Format, demangle, demangle_bytes_formatted, demangle_slice_formatted, demangle_text_formatted,
 };
 use crate::support::alloc::{AllocError, Global};
 use crate::support::rt::HostRuntime;
 use crate::support::test::Fail;
 use crate::support::vec::Vec;
 
-/// Returns `true` if a text prints folded as `text` under a limit, with its looks counted and
-/// without.
+/// Returns `true` if a text prints folded as `text` under a limit.
 fn folded_is(symbol: &str, include_hash: bool, limit: usize, text: &str) -> bool {
     let symbol = demangle(symbol);
     let mut sink: ArraySink<4096> = ArraySink::new();
     let mut counted: ArraySink<4096> = ArraySink::new();
     let result = symbol.write_folded(&mut sink, include_hash, limit);
-    let mut looks = Looks::new();
-    let again = symbol.write_folded_counted(&mut counted, include_hash, limit, &mut looks);
+
+    let again = symbol.write_folded(&mut counted, include_hash, limit);
     result.is_ok() && again.is_ok() && sink.as_str() == text && counted.as_str() == text
 }
 
@@ -113,9 +111,8 @@ fn all_else_prints_as_without_folding() {
 
 #[test]
 fn folding_accepts_the_same_symbols() {
-    let rt = HostRuntime;
     for text in ["_RINvC1a1bh", "_RINvC1a1bRE", "_RINvC1a1b@E"] {
-        assert_rejected(&rt, text, text);
+        assert_rejected(text, text);
         assert!(
             folded_is(text, true, 1_000_000, text),
             "{text} with the hash"
@@ -198,9 +195,11 @@ fn a_text_is_folded_into_a_sink() {
     assert_eq!(sink.as_str(), "x foo::bar::{size limit reached} y");
 }
 
-/// Runs that the filter looks up in its memo, with a limit and the folded texts, with the hash and
-/// without it.
-const RUNS: [(&[u8], usize, &[u8], &[u8]); 18] = [
+/// A run, a limit, and the folded texts under it, with the hash and without it.
+type Row = (&'static [u8], usize, &'static [u8], &'static [u8]);
+
+/// Runs that the filter looks up in its memo.
+const RUNS: [Row; 18] = [
     // A lifetime in a list names none. The second path is not printed at all.
     (
         b"_RINvC5crate7genericRL1_uE",

@@ -3,12 +3,11 @@
 use super::{assert_prints, assert_rejected, print_symbol};
 use crate::support::format;
 use crate::support::rt::HostRuntime;
-use crate::support::string::RepeatIn;
 use crate::support::test::Fail;
+use crate::support::texts::RepeatIn;
 
 #[test]
 fn lengths_without_bound_are_rejected() {
-    let rt = HostRuntime;
     for text in [
         "_ZN1000000000000000000000000000000aE",
         "_ZN18446744073709551616aE",
@@ -17,16 +16,15 @@ fn lengths_without_bound_are_rejected() {
         "_ZN3foéE",
         "_ZN2éE",
     ] {
-        assert_rejected(&rt, text, text);
+        assert_rejected(text, text);
     }
 }
 
 #[test]
 fn control_characters_are_kept() {
-    let rt = HostRuntime;
-    assert_prints(&rt, "_ZN1\0E", "\0", "\0");
-    assert_prints(&rt, "_ZN1\x7fE", "\x7f", "\x7f");
-    assert_prints(&rt, "_ZN3a\nbE", "a\nb", "a\nb");
+    assert_prints("_ZN1\0E", "\0", "\0");
+    assert_prints("_ZN1\x7fE", "\x7f", "\x7f");
+    assert_prints("_ZN3a\nbE", "a\nb", "a\nb");
 }
 
 #[test]

@@ -1,24 +1,21 @@
 // Made from crates/demangle_vectors/src/tests/legacy.rt by packaging/crate/erase.py: edit that file instead.
 //! Tests of legacy symbols.
 use super::assert_prints;
-use crate::support::rt::HostRuntime;
 
 #[test]
 fn paths_print_their_elements() {
-    let rt = HostRuntime;
     for (symbol, path) in [
         ("_ZN003fooE", "foo"),
         ("_ZNE", ""),
         ("_ZN3foo0E", "foo::"),
         ("_ZN1HE", "H"),
     ] {
-        assert_prints(&rt, symbol, path, path);
+        assert_prints(symbol, path, path);
     }
 }
 
 #[test]
 fn escapes_give_their_characters() {
-    let rt = HostRuntime;
     for (symbol, path) in [
         ("_ZN14$u00000000041$E", "A"),
         ("_ZN4_$C$E", ","),
@@ -27,13 +24,12 @@ fn escapes_give_their_characters() {
         ("_ZN4$SP$E", "@"),
         ("_ZN5$ua0$E", "\u{a0}"),
     ] {
-        assert_prints(&rt, symbol, path, path);
+        assert_prints(symbol, path, path);
     }
 }
 
 #[test]
 fn unknown_escapes_leave_the_rest_as_it_is() {
-    let rt = HostRuntime;
     for (symbol, path) in [
         ("_ZN10a$XX$b..cdE", "a$XX$b..cd"),
         ("_ZN5a$u7$E", "a$u7$"),
@@ -45,13 +41,12 @@ fn unknown_escapes_leave_the_rest_as_it_is() {
         ("_ZN5$u4A$E", "$u4A$"),
         ("_ZN5$u4G$E", "$u4G$"),
     ] {
-        assert_prints(&rt, symbol, path, path);
+        assert_prints(symbol, path, path);
     }
 }
 
 #[test]
 fn a_last_hash_is_printed_in_the_plain_form_alone() {
-    let rt = HostRuntime;
     for (symbol, plain, alt) in [
         (
             "_ZN3foo17h05af221e174051e9E",
@@ -62,13 +57,12 @@ fn a_last_hash_is_printed_in_the_plain_form_alone() {
         ("_ZN3foo3hABE.x", "foo::hAB.x", "foo.x"),
         ("_ZN1hE", "h", ""),
     ] {
-        assert_prints(&rt, symbol, plain, alt);
+        assert_prints(symbol, plain, alt);
     }
 }
 
 #[test]
 fn suffixes_follow_the_path() {
-    let rt = HostRuntime;
     for (symbol, plain, alt) in [
         ("_ZN3fooE.x", "foo.x", "foo.x"),
         ("_ZNE.", ".", "."),
@@ -82,6 +76,6 @@ fn suffixes_follow_the_path() {
         ("_ZN1aE.llvm.a", "a.llvm.a", "a.llvm.a"),
         ("_ZNE.llvm.", "", ""),
     ] {
-        assert_prints(&rt, symbol, plain, alt);
+        assert_prints(symbol, plain, alt);
     }
 }

@@ -1,21 +1,21 @@
 // Made from crates/demangle_vectors/src/tests/limits.rt by packaging/crate/erase.py: edit that file instead.
 //! Tests of symbols under a size limit.
 use super::assert_prints_long;
+use crate::rustc_demangle::demangle;
 use crate::rustc_demangle::sink::{ArraySink, TextSink};
-use crate::rustc_demangle::{Looks, demangle};
 use crate::support::format;
 use crate::support::rt::HostRuntime;
-use crate::support::string::RepeatIn;
 use crate::support::test::Fail;
+use crate::support::texts::RepeatIn;
 
-/// Returns `true` if a text prints as `text` under a limit, with its looks counted and without.
+/// Returns `true` if a text prints as `text` under a limit.
 fn limited_is(symbol: &str, include_hash: bool, limit: usize, text: &str) -> bool {
     let symbol = demangle(symbol);
     let mut sink: ArraySink<4096> = ArraySink::new();
     let mut counted: ArraySink<4096> = ArraySink::new();
     let result = symbol.write_limited(&mut sink, include_hash, limit);
-    let mut looks = Looks::new();
-    let again = symbol.write_limited_counted(&mut counted, include_hash, limit, &mut looks);
+
+    let again = symbol.write_limited(&mut counted, include_hash, limit);
     result.is_ok() && again.is_ok() && sink.as_str() == text && counted.as_str() == text
 }
 
@@ -85,9 +85,9 @@ fn a_million_bytes_are_printed_and_no_more() -> Result<(), Fail> {
     let longer = format!(in alloc; "_ZN1000001a{million}E")?;
     let followed = format!(in alloc; "_ZN1000000{million}1bE")?;
     let cut = format!(in alloc; "{million}{{size limit reached}}")?;
-    assert_prints_long(&rt, alloc, full.as_str(), million)?;
-    assert_prints_long(&rt, alloc, longer.as_str(), "{size limit reached}")?;
-    assert_prints_long(&rt, alloc, followed.as_str(), cut.as_str())?;
+    assert_prints_long(alloc, full.as_str(), million)?;
+    assert_prints_long(alloc, longer.as_str(), "{size limit reached}")?;
+    assert_prints_long(alloc, followed.as_str(), cut.as_str())?;
     Ok(())
 }
 

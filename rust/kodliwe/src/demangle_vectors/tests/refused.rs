@@ -2,11 +2,9 @@
 //! Tests of texts that are not symbols.
 use super::assert_rejected;
 use crate::demangle_vectors::printed_is;
-use crate::support::rt::HostRuntime;
 
 #[test]
 fn texts_that_no_grammar_spells_print_themselves() {
-    let rt = HostRuntime;
     for text in [
         "",
         "é",
@@ -20,13 +18,12 @@ fn texts_that_no_grammar_spells_print_themselves() {
         "_ZN6$u000$",
         "_ZN8$ud800$E",
     ] {
-        assert_rejected(&rt, text, text);
+        assert_rejected(text, text);
     }
 }
 
 #[test]
 fn symbols_with_a_suffix_that_is_not_allowed_print_themselves() {
-    let rt = HostRuntime;
     for text in [
         "_ZN3fooE.a b",
         "_ZN3fooEx",
@@ -40,13 +37,12 @@ fn symbols_with_a_suffix_that_is_not_allowed_print_themselves() {
         "_RC3foo.a\u{7f}",
         "_RC3foo.ü",
     ] {
-        assert_rejected(&rt, text, text);
+        assert_rejected(text, text);
     }
 }
 
 #[test]
 fn a_thin_lto_suffix_is_stripped_off_any_text() {
-    let rt = HostRuntime;
     for (text, printed) in [
         ("foo.llvm.AB", "foo"),
         ("foo.llvm.", "foo"),
@@ -55,7 +51,7 @@ fn a_thin_lto_suffix_is_stripped_off_any_text() {
         ("a.llvm.A.llvm.G", "a.llvm.A.llvm.G"),
         ("foo.llvm.AG", "foo.llvm.AG"),
     ] {
-        assert_rejected(&rt, text, printed);
+        assert_rejected(text, printed);
     }
 }
 

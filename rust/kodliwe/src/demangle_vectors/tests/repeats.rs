@@ -2,13 +2,13 @@
 //! Tests of repeated symbols, with chunks of all sizes and several limits.
 use crate::rustc_demangle::{BytesFilter, SymbolMemo, demangle_bytes_limited};
 use crate::support::alloc::{AllocError, Global};
-use crate::support::process::Abort;
 use crate::support::rt::HostRuntime;
-use crate::support::test::Fail;
 use crate::support::vec::CollectIn;
 use crate::support::vec::Vec;
-use crate::test_doubles::streams::{ChunkReader, FailingWriter};
 use std::io::ErrorKind;
+
+use crate::support::test::Fail;
+use crate::test_doubles::streams::{ChunkReader, FailingWriter};
 
 /// The number of times that each text is repeated.
 const TIMES: usize = 5;
@@ -16,9 +16,11 @@ const TIMES: usize = 5;
 /// A symbol whose text is longer than a memo stores.
 const LONG: &[u8] = b"_RIC1aTyyyyyyyyyyyyyyyyETB3_B3_B3_ETBl_Bl_Bl_ETBw_Bw_Bw_EE";
 
-/// Runs that a memo looks up, with a limit and the texts printed under it, with the hash and
-/// without it.
-const ROWS: [(&[u8], usize, &[u8], &[u8]); 15] = [
+/// A run, a limit, and the texts printed under it, with the hash and without it.
+type Row = (&'static [u8], usize, &'static [u8], &'static [u8]);
+
+/// Runs that a memo looks up.
+const ROWS: [Row; 15] = [
     (
         b"_ZN3foo17h05af221e174051e9E",
         1_000_000,
@@ -118,7 +120,7 @@ struct Case<'a> {
 
 impl Case<'_> {
     /// Asserts the output for the text in chunks of one size.
-    fn assert_written(&self, rt: &impl Abort, alloc: Global, size: usize) -> Result<(), Fail> {
+    fn assert_written(&self, alloc: Global, size: usize) -> Result<(), Fail> {
         let parts: Vec<&[u8]> = self.text.chunks(size.max(1)).collect_in(alloc)?;
         let mut input = ChunkReader::new(parts.as_slice(), usize::MAX, ErrorKind::Other);
         let mut output = Vec::new(alloc);
@@ -165,7 +167,7 @@ fn a_repeated_run_is_written_alike() -> Result<(), Fail> {
                 wanted: wanted.as_slice(),
             };
             for size in [1, 2, 3, 64, 4_096] {
-                case.assert_written(&rt, alloc, size)?;
+                case.assert_written(alloc, size)?;
             }
         }
     }
@@ -207,7 +209,7 @@ fn a_long_text_is_written_whole_each_time() -> Result<(), Fail> {
         wanted: wanted.as_slice(),
     };
     for size in [1, 64, 4_096] {
-        case.assert_written(&rt, alloc, size)?;
+        case.assert_written(alloc, size)?;
     }
     Ok(())
 }
@@ -236,7 +238,7 @@ fn alternating_runs_keep_their_texts() -> Result<(), Fail> {
             wanted: wanted.as_slice(),
         };
         for size in [1, 2, 3, 64, 4_096] {
-            case.assert_written(&rt, alloc, size)?;
+            case.assert_written(alloc, size)?;
         }
     }
     Ok(())

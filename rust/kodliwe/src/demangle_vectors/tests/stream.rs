@@ -2,19 +2,18 @@
 //! Tests of the stream's output for lines, and with a reader or a writer that fails.
 use crate::rustc_demangle::{StreamFault, demangle_bytes, demangle_stream, demangle_stream_named};
 use crate::support::alloc::Global;
-use crate::support::process::Abort;
 use crate::support::rt::HostRuntime;
-use crate::support::test::Fail;
 use crate::support::vec::Vec;
-use crate::test_doubles::streams::{ChunkReader, FailingWriter, RecordingWriter};
 use std::io;
 use std::io::{BufRead, ErrorKind, Read};
 
+use crate::support::test::Fail;
+use crate::test_doubles::streams::{ChunkReader, FailingWriter, RecordingWriter};
+
 /// Texts, and the stream's output for them, with the hash and without it.
-pub(super) const ROWS: [(&[u8], &[u8]); 20] = [
+pub(super) const ROWS: [(&[u8], &[u8]); 17] = [
     (b"", b""),
     (b"\n", b"\n"),
-    (b"__ZN3fooE", b"_foo"),
     (b"_ZN3fooE.llvm.9D1C9369@@16", b"foo@@16"),
     (b"_R_ZN3fooE", b"_R_ZN3fooE"),
     (b"_ZNfooE.llvm.AB", b"_ZNfooE.llvm.AB"),
@@ -22,7 +21,6 @@ pub(super) const ROWS: [(&[u8], &[u8]); 20] = [
         b"_ZN3fooE.llvm moocow _ZN3fooE.llvm",
         b"foo.llvm moocow foo.llvm",
     ),
-    (b"a_ZN3fooE", b"afoo"),
     (b"\xC3\xA9_ZN3fooE\xC3\xA9", b"\xC3\xA9foo\xC3\xA9"),
     (b"_ZN3fooEx", b"_ZN3fooEx"),
     (b"_ZN3fooE\r\n", b"foo\r\n"),
@@ -30,16 +28,24 @@ pub(super) const ROWS: [(&[u8], &[u8]); 20] = [
     (b"_Z _ZN_ _R", b"_Z _ZN_ _R"),
     (b"a\n\nb _ZN1aE\nc", b"a\n\nb a\nc"),
     (b"_ZN3fooE,_RC1a", b"foo,a"),
-    (b"RC1a __RC1a _RC1aC1b", b"RC1a _a a"),
     (b"_RMC0FG_RL0_hEu\n", b"<for<'a> fn(&'a u8)>\n"),
     (b"_R_RC1a _RC1a_RC1b", b"_R_RC1a _RC1a_RC1b"),
     (b"x _ZN8$RF$testE y", b"x &test y"),
     (b"_ZN3fooE.a~ _ZN3fooE.llvm.AG", b"foo.a~ foo.llvm.AG"),
 ];
 
+/// Lines, and their output by the calls over lines, which replace each run.
+const EACH_RUN: [(&[u8], &[u8]); 6] = [
+    (b"__ZN3fooE", b"_foo"),
+    (b"a_ZN3fooE", b"afoo"),
+    (b"RC1a __RC1a _RC1aC1b", b"RC1a _a a"),
+    (b"SW_RC0.zip", b"SW.zip"),
+    (b"CLK_RC1M", b"CLKM"),
+    (b" __RNvC3foo3bar", b" _foo::bar"),
+];
+
 /// Asserts the stream's output for a text, with the hash or without it.
 fn assert_writes(
-    rt: &impl Abort,
     alloc: Global,
     text: &[u8],
     include_hash: bool,
@@ -56,9 +62,9 @@ fn assert_writes(
 #[test]
 fn symbols_are_replaced_in_lines() -> Result<(), Fail> {
     let rt = HostRuntime;
-    for (text, wanted) in ROWS {
-        assert_writes(&rt, rt.alloc(), text, true, wanted)?;
-        assert_writes(&rt, rt.alloc(), text, false, wanted)?;
+    for (text, wanted) in ROWS.iter().chain(EACH_RUN.iter()) {
+        assert_writes(rt.alloc(), text, true, wanted)?;
+        assert_writes(rt.alloc(), text, false, wanted)?;
     }
     Ok(())
 }
@@ -78,7 +84,7 @@ fn a_run_ends_at_each_byte_that_it_may_not_have() -> Result<(), Fail> {
             wanted.extend_from_slice(b"foo")?;
         }
         wanted.push(byte)?;
-        assert_writes(&rt, alloc, text.as_slice(), true, wanted.as_slice())?;
+        assert_writes(alloc, text.as_slice(), true, wanted.as_slice())?;
     }
     Ok(())
 }
@@ -87,8 +93,8 @@ fn a_run_ends_at_each_byte_that_it_may_not_have() -> Result<(), Fail> {
 fn the_stream_leaves_out_a_hash() -> Result<(), Fail> {
     let rt = HostRuntime;
     let text = b"<_ZN3foo17h05af221e174051e9E>\n".as_slice();
-    assert_writes(&rt, rt.alloc(), text, true, b"<foo::h05af221e174051e9>\n")?;
-    assert_writes(&rt, rt.alloc(), text, false, b"<foo>\n")
+    assert_writes(rt.alloc(), text, true, b"<foo::h05af221e174051e9>\n")?;
+    assert_writes(rt.alloc(), text, false, b"<foo>\n")
 }
 
 #[test]
@@ -199,15 +205,15 @@ pub(super) const TAIL: [&[u8]; 17] = [
 fn lines_have_symbols_of_both_schemes() -> Result<(), Fail> {
     let rt = HostRuntime;
     let alt = b"foo.llvm moocow <mio::sys::unix::selector::epoll::Selector>::select foo.llvm";
-    assert_writes(&rt, rt.alloc(), LINE, false, alt.as_slice())?;
+    assert_writes(rt.alloc(), LINE, false, alt.as_slice())?;
     let plain =
         b"foo.llvm moocow <mio[1888792e1a78739]::sys::unix::selector::epoll::Selector>::select foo.llvm";
-    assert_writes(&rt, rt.alloc(), LINE, true, plain.as_slice())
+    assert_writes(rt.alloc(), LINE, true, plain.as_slice())
 }
 
 /// Asserts the contents of a writer that fails at a write of each number, for `LINE` twice. It must
 /// contain exactly the writes before the failed one.
-fn assert_held(rt: &impl Abort, alloc: Global, include_hash: bool) -> Result<(), Fail> {
+fn assert_held(alloc: Global, include_hash: bool) -> Result<(), Fail> {
     let mut text = Vec::new(alloc);
     let mut wanted_writes: Vec<&[u8]> = Vec::new(alloc);
     for _ in 0..2 {
@@ -241,8 +247,8 @@ fn assert_held(rt: &impl Abort, alloc: Global, include_hash: bool) -> Result<(),
 #[test]
 fn the_writer_fails_at_each_write() -> Result<(), Fail> {
     let rt = HostRuntime;
-    assert_held(&rt, rt.alloc(), true)?;
-    assert_held(&rt, rt.alloc(), false)
+    assert_held(rt.alloc(), true)?;
+    assert_held(rt.alloc(), false)
 }
 
 #[test]

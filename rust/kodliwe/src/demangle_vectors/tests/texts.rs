@@ -5,8 +5,7 @@ use crate::rustc_demangle::sink::{ArraySink, TextSink};
 use crate::rustc_demangle::{
     demangle_slice, demangle_text, demangle_text_limited, run_len, run_start,
 };
-use crate::support::process::Abort;
-use crate::support::rt::HostRuntime;
+
 use crate::support::test::Fail;
 use crate::test_doubles::RefusingSink;
 use core::str;
@@ -70,7 +69,7 @@ fn a_limit_cuts_each_symbol_of_a_text() {
 }
 
 /// Asserts the output for bytes in a slice with room for it, and in smaller ones.
-fn assert_fills(rt: &impl Abort, text: &[u8], wanted: &[u8]) {
+pub(super) fn assert_fills(text: &[u8], wanted: &[u8]) {
     for size in 0..=wanted.len().saturating_add(1).min(128) {
         let mut bytes = [7; 128];
         let memory = bytes.get_mut(..size).unwrap_or(&mut []);
@@ -87,13 +86,12 @@ fn assert_fills(rt: &impl Abort, text: &[u8], wanted: &[u8]) {
 
 #[test]
 fn any_bytes_are_written_into_memory() {
-    let rt = HostRuntime;
     for (text, wanted) in ROWS {
-        assert_fills(&rt, text, wanted);
+        assert_fills(text, wanted);
     }
-    assert_fills(&rt, b"caf\xE9 _ZN3fooE\xE9\0", b"caf\xE9 foo\xE9\0");
-    assert_fills(&rt, b"\xFF_ZN3fooE\xFF", b"\xFFfoo\xFF");
-    assert_fills(&rt, b"_ZN3f\xC3\xA9E", b"_ZN3f\xC3\xA9E");
+    assert_fills(b"caf\xE9 _ZN3fooE\xE9\0", b"caf\xE9 foo\xE9\0");
+    assert_fills(b"\xFF_ZN3fooE\xFF", b"\xFFfoo\xFF");
+    assert_fills(b"_ZN3f\xC3\xA9E", b"_ZN3f\xC3\xA9E");
 }
 
 #[test]

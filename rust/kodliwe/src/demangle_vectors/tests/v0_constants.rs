@@ -3,23 +3,17 @@
 use super::{assert_prints, assert_rejected};
 use crate::support::alloc::Global;
 use crate::support::format;
-use crate::support::process::Abort;
 use crate::support::rt::HostRuntime;
+
 use crate::support::test::Fail;
 
 /// Asserts the printed form of a constant as the only argument of a path, with the types of its
 /// numbers and without them.
-pub fn assert_constant(
-    rt: &impl Abort,
-    alloc: Global,
-    constant: &str,
-    plain: &str,
-    alt: &str,
-) -> Result<(), Fail> {
+pub fn assert_constant(alloc: Global, constant: &str, plain: &str, alt: &str) -> Result<(), Fail> {
     let symbol = format!(in alloc; "_RIC0K{constant}E")?;
     let plain = format!(in alloc; "::<{plain}>")?;
     let alt = format!(in alloc; "::<{alt}>")?;
-    assert_prints(rt, symbol.as_str(), plain.as_str(), alt.as_str());
+    assert_prints(symbol.as_str(), plain.as_str(), alt.as_str());
     Ok(())
 }
 
@@ -40,7 +34,7 @@ fn numbers_have_their_type_only_in_the_plain_form() -> Result<(), Fail> {
         ("h00ff_", "255u8", "255"),
         ("an0_", "-0i8", "-0"),
     ] {
-        assert_constant(&rt, rt.alloc(), constant, plain, alt)?;
+        assert_constant(rt.alloc(), constant, plain, alt)?;
     }
     Ok(())
 }
@@ -80,7 +74,7 @@ fn numbers_of_up_to_128_bits_are_decimal() -> Result<(), Fail> {
             "340282366920938463463374607431768211455",
         ),
     ] {
-        assert_constant(&rt, rt.alloc(), constant, plain, alt)?;
+        assert_constant(rt.alloc(), constant, plain, alt)?;
     }
     Ok(())
 }
@@ -105,7 +99,7 @@ fn longer_numbers_keep_their_nibbles() -> Result<(), Fail> {
             "-0x100000000000000000000000000000000",
         ),
     ] {
-        assert_constant(&rt, rt.alloc(), constant, plain, alt)?;
+        assert_constant(rt.alloc(), constant, plain, alt)?;
     }
     Ok(())
 }
@@ -114,7 +108,7 @@ fn longer_numbers_keep_their_nibbles() -> Result<(), Fail> {
 fn booleans_and_placeholders() -> Result<(), Fail> {
     let rt = HostRuntime;
     for (constant, text) in [("b_", "false"), ("b00_", "false"), ("b0001_", "true")] {
-        assert_constant(&rt, rt.alloc(), constant, text, text)?;
+        assert_constant(rt.alloc(), constant, text, text)?;
     }
     Ok(())
 }
@@ -127,7 +121,7 @@ fn references() -> Result<(), Fail> {
         ("RQh1_", "{&&mut 1u8}", "{&&mut 1}"),
         ("RAE", "{&[]}", "{&[]}"),
     ] {
-        assert_constant(&rt, rt.alloc(), constant, plain, alt)?;
+        assert_constant(rt.alloc(), constant, plain, alt)?;
     }
     Ok(())
 }
@@ -135,9 +129,8 @@ fn references() -> Result<(), Fail> {
 #[test]
 fn arrays_and_tuples() -> Result<(), Fail> {
     let rt = HostRuntime;
-    for (constant, plain, alt) in [("Ae61_E", "{[*\"a\"]}", "{[*\"a\"]}")] {
-        assert_constant(&rt, rt.alloc(), constant, plain, alt)?;
-    }
+    let text = "{[*\"a\"]}";
+    assert_constant(rt.alloc(), "Ae61_E", text, text)?;
     Ok(())
 }
 
@@ -150,7 +143,7 @@ fn values_of_structs_and_enums() -> Result<(), Fail> {
         ("VC1aSs_1xh1_E", "{a { x: 1u8 }}", "{a { x: 1 }}"),
         ("AVC1aUE", "{[a]}", "{[a]}"),
     ] {
-        assert_constant(&rt, rt.alloc(), constant, plain, alt)?;
+        assert_constant(rt.alloc(), constant, plain, alt)?;
     }
     Ok(())
 }
@@ -162,14 +155,13 @@ fn a_constant_over_a_failed_path_stays_open() -> Result<(), Fail> {
         ("VIC1aL0_EU", "{a::<'{invalid syntax}>?"),
         ("AVIC1aL0_EUE", "{[a::<'{invalid syntax}>?]}"),
     ] {
-        assert_constant(&rt, rt.alloc(), constant, text, text)?;
+        assert_constant(rt.alloc(), constant, text, text)?;
     }
     Ok(())
 }
 
 #[test]
 fn malformed_constants_are_rejected() {
-    let rt = HostRuntime;
     for text in [
         "_RIC0Kb2_E",
         "_RIC0Kb10_E",
@@ -194,6 +186,6 @@ fn malformed_constants_are_rejected() {
         "_RIC0KeG_E",
         "_RIC0KzE",
     ] {
-        assert_rejected(&rt, text, text);
+        assert_rejected(text, text);
     }
 }

@@ -24,9 +24,9 @@ fn long_names_print_as_they_are() -> Result<(), Fail> {
     let alloc = rt.alloc();
     let symbol = repeat_between(alloc, "_RC1000000", "a", 1_000_000, "")?;
     let text = repeat_between(alloc, "", "a", 1_000_000, "")?;
-    assert_prints_long(&rt, alloc, symbol.as_str(), text.as_str())?;
+    assert_prints_long(alloc, symbol.as_str(), text.as_str())?;
     let symbol = repeat_between(alloc, "_RCu1000000", "a", 1_000_000, "")?;
     let cut = "punycode{{size limit reached}";
-    assert_prints_long(&rt, alloc, symbol.as_str(), cut)?;
+    assert_prints_long(alloc, symbol.as_str(), cut)?;
     Ok(())
 }

@@ -6,9 +6,9 @@ use crate::rustc_demangle::{demangle, try_demangle};
 use crate::support::alloc::{AllocError, Global};
 use crate::support::format;
 use crate::support::rt::HostRuntime;
-use crate::support::string::RepeatIn;
 use crate::support::string::String;
 use crate::support::test::Fail;
+use crate::support::texts::RepeatIn;
 use crate::support::vec::Vec;
 
 const MARKER: &str = "{size limit reached}";
@@ -21,9 +21,9 @@ fn types_nest_up_to_500_deep() -> Result<(), Fail> {
     let alloc = rt.alloc();
     let deep = repeat_between(alloc, "_RMC0", "R", 499, "u")?;
     let text = repeat_between(alloc, "<", "&", 499, "()>")?;
-    assert_prints(&rt, deep.as_str(), text.as_str(), text.as_str());
+    assert_prints(deep.as_str(), text.as_str(), text.as_str());
     let deeper = repeat_between(alloc, "_RMC0", "R", 500, "u")?;
-    assert_rejected(&rt, deeper.as_str(), deeper.as_str());
+    assert_rejected(deeper.as_str(), deeper.as_str());
     Ok(())
 }
 
@@ -35,10 +35,10 @@ fn paths_nest_up_to_500_deep() -> Result<(), Fail> {
     let deep = repeat_between(alloc, "_R", "Nv", 499, "C1a")?;
     let deep = format!(in alloc; "{deep}{names}")?;
     let text = repeat_between(alloc, "a", "::b", 499, "")?;
-    assert_prints(&rt, deep.as_str(), text.as_str(), text.as_str());
+    assert_prints(deep.as_str(), text.as_str(), text.as_str());
     let deeper = repeat_between(alloc, "_R", "Nv", 500, "C1a1b")?;
     let deeper = format!(in alloc; "{deeper}{names}")?;
-    assert_rejected(&rt, deeper.as_str(), deeper.as_str());
+    assert_rejected(deeper.as_str(), deeper.as_str());
     Ok(())
 }
 
@@ -49,9 +49,9 @@ fn constants_nest_up_to_500_deep() -> Result<(), Fail> {
     let deep = repeat_between(alloc, "_RIC0K", "R", 498, "h0_E")?;
     let plain = repeat_between(alloc, "::<{", "&", 498, "0u8}>")?;
     let alt = repeat_between(alloc, "::<{", "&", 498, "0}>")?;
-    assert_prints(&rt, deep.as_str(), plain.as_str(), alt.as_str());
+    assert_prints(deep.as_str(), plain.as_str(), alt.as_str());
     let deeper = repeat_between(alloc, "_RIC0K", "R", 499, "h0_E")?;
-    assert_rejected(&rt, deeper.as_str(), deeper.as_str());
+    assert_rejected(deeper.as_str(), deeper.as_str());
     Ok(())
 }
 
@@ -62,10 +62,10 @@ fn patterns_nest_up_to_500_deep() -> Result<(), Fail> {
     let ends = "E".repeat_in(alloc, 498)?;
     let deep = repeat_between(alloc, "_RMC0Wm", "O", 498, "N")?;
     let deep = format!(in alloc; "{deep}{ends}")?;
-    assert_prints(&rt, deep.as_str(), "<u32 is !null>", "<u32 is !null>");
+    assert_prints(deep.as_str(), "<u32 is !null>", "<u32 is !null>");
     let deeper = repeat_between(alloc, "_RMC0Wm", "O", 499, "NE")?;
     let deeper = format!(in alloc; "{deeper}{ends}")?;
-    assert_rejected(&rt, deeper.as_str(), deeper.as_str());
+    assert_rejected(deeper.as_str(), deeper.as_str());
     Ok(())
 }
 
@@ -76,7 +76,7 @@ fn depth_is_given_back() -> Result<(), Fail> {
     for (leaf, printed_leaf) in [("p", ", _"), ("Rp", ", &_"), ("C1x", ", x")] {
         let symbol = repeat_between(alloc, "_RIC0p", leaf, 1_000, "E")?;
         let text = repeat_between(alloc, "::<_", printed_leaf, 1_000, ">")?;
-        assert_prints_long(&rt, alloc, symbol.as_str(), text.as_str())?;
+        assert_prints_long(alloc, symbol.as_str(), text.as_str())?;
     }
     Ok(())
 }
@@ -87,10 +87,10 @@ fn a_target_is_one_deeper_than_its_reference() -> Result<(), Fail> {
     let alloc = rt.alloc();
     let head = format!(in alloc; "{TOO_DEEP}::?")?;
     let text = repeat_between(alloc, head.as_str(), "::a", 166, "")?;
-    assert_prints_long(&rt, alloc, "_RNvB_1a", text.as_str())?;
+    assert_prints_long(alloc, "_RNvB_1a", text.as_str())?;
     let end = format!(in alloc; "{TOO_DEEP}>")?;
     let text = repeat_between(alloc, "<", "&", 167, end.as_str())?;
-    assert_prints_long(&rt, alloc, "_RMC0RB2_", text.as_str())?;
+    assert_prints_long(alloc, "_RMC0RB2_", text.as_str())?;
     Ok(())
 }
 
@@ -102,7 +102,7 @@ fn a_target_inside_a_long_name_meets_the_limit_of_depth() -> Result<(), Fail> {
     let end = format!(in alloc; "{TOO_DEEP}>")?;
     let arguments = repeat_between(alloc, "::<", "&", 497, end.as_str())?;
     let text = repeat_between(alloc, "", "R", 100_000, arguments.as_str())?;
-    assert_prints_long(&rt, alloc, symbol.as_str(), text.as_str())?;
+    assert_prints_long(alloc, symbol.as_str(), text.as_str())?;
     let symbol = repeat_between(alloc, "RIC20tRYIMYNRYFG05_EB5_B_B6_", "R", 100, "B_E")?;
     assert!(try_demangle(symbol.as_str()).is_ok());
     for include_hash in [true, false] {
@@ -119,10 +119,10 @@ fn a_decoded_name_has_up_to_128_characters() -> Result<(), Fail> {
     let alloc = rt.alloc();
     let longest = repeat_between(alloc, "_RCu131", "a", 127, "_ecn")?;
     let text = repeat_between(alloc, "", "a", 127, "ü")?;
-    assert_prints(&rt, longest.as_str(), text.as_str(), text.as_str());
+    assert_prints(longest.as_str(), text.as_str(), text.as_str());
     let longer = repeat_between(alloc, "_RCu132", "a", 128, "_yfn")?;
     let text = repeat_between(alloc, "punycode{", "a", 128, "-yfn}")?;
-    assert_prints(&rt, longer.as_str(), text.as_str(), text.as_str());
+    assert_prints(longer.as_str(), text.as_str(), text.as_str());
     Ok(())
 }
 
@@ -148,12 +148,12 @@ fn lifetimes_are_printed_up_to_the_limit() -> Result<(), Fail> {
     let lifetimes = lifetimes(alloc, 111_113)?;
     let text = format!(in alloc; "{lifetimes}, '_{MARKER}")?;
     assert_eq!(text.as_str().len(), 1_000_015);
-    assert_prints_long(&rt, alloc, "_RMC0FGZZZ_Eu", text.as_str())?;
-    assert_prints_long(&rt, alloc, "_RMC0FGZZZZZZZZZZ_Eu", text.as_str())?;
+    assert_prints_long(alloc, "_RMC0FGZZZ_Eu", text.as_str())?;
+    assert_prints_long(alloc, "_RMC0FGZZZZZZZZZZ_Eu", text.as_str())?;
     let text = format!(in alloc; "{text}.x")?;
-    assert_prints_long(&rt, alloc, "_RMC0FGZZZ_Eu.x", text.as_str())?;
+    assert_prints_long(alloc, "_RMC0FGZZZ_Eu.x", text.as_str())?;
     let refused = "_RMC0FGZZZZZZZZZZZ_Eu";
-    assert_rejected(&rt, refused, refused);
+    assert_rejected(refused, refused);
     let text = format!(in alloc; "{lifetimes}, '_111114{MARKER}")?;
     assert_eq!(text.as_str().len(), 1_000_021);
     for include_hash in [true, false] {
@@ -197,7 +197,7 @@ fn pairs_of_pairs_are_printed() -> Result<(), Fail> {
         let symbol = pairs_symbol(alloc, pairs)?;
         let text = pairs_text(alloc, pairs)?;
         assert_eq!(text.as_str().len(), len);
-        assert_prints_long(&rt, alloc, symbol.as_str(), text.as_str())?;
+        assert_prints_long(alloc, symbol.as_str(), text.as_str())?;
     }
     Ok(())
 }
@@ -212,7 +212,7 @@ fn pairs_of_pairs_are_cut_at_the_limit() -> Result<(), Fail> {
     assert!(kept.as_bytes().ends_with(b"_))))))".as_slice()));
     let text = format!(in alloc; "{kept}{MARKER}")?;
     assert_eq!(text.as_str().len(), 1_000_019);
-    assert_prints_long(&rt, alloc, symbol.as_str(), text.as_str())?;
+    assert_prints_long(alloc, symbol.as_str(), text.as_str())?;
     Ok(())
 }
 

@@ -19,7 +19,7 @@ fn characters_are_quoted() -> Result<(), Fail> {
         ("c10ffff_", "'\\u{10ffff}'"),
         ("c00000041_", "'A'"),
     ] {
-        assert_constant(&rt, rt.alloc(), constant, text, text)?;
+        assert_constant(rt.alloc(), constant, text, text)?;
     }
     Ok(())
 }
@@ -40,7 +40,7 @@ fn characters_past_ascii_are_escaped_by_their_category() -> Result<(), Fail> {
         ("c4e00_", "'一'"),
         ("c1f600_", "'😀'"),
     ] {
-        assert_constant(&rt, rt.alloc(), constant, text, text)?;
+        assert_constant(rt.alloc(), constant, text, text)?;
     }
     Ok(())
 }
@@ -55,7 +55,7 @@ fn strings_are_quoted() -> Result<(), Fail> {
         ("e00_", "{*\"\\0\"}"),
         ("QRe61_", "{&mut \"a\"}"),
     ] {
-        assert_constant(&rt, rt.alloc(), constant, text, text)?;
+        assert_constant(rt.alloc(), constant, text, text)?;
     }
     Ok(())
 }

@@ -1,24 +1,21 @@
 // Made from crates/demangle_vectors/src/tests/v0_paths.rt by packaging/crate/erase.py: edit that file instead.
 //! Tests of v0 symbols: names and paths.
 use super::{assert_prints, assert_rejected};
-use crate::support::rt::HostRuntime;
 
 #[test]
 fn a_crate_has_a_disambiguator_only_in_the_plain_form() {
-    let rt = HostRuntime;
     for (symbol, plain, alt) in [
         ("_RCs_3foo", "foo[1]", "foo"),
         ("_RCslYGhA16ahyd_1a", "a[ffffffffffffffff]", "a"),
         ("_RCs0_3foo", "foo[2]", "foo"),
         ("_RCsZ_3foo", "foo[3f]", "foo"),
     ] {
-        assert_prints(&rt, symbol, plain, alt);
+        assert_prints(symbol, plain, alt);
     }
 }
 
 #[test]
 fn nested_names_have_two_colons_between() {
-    let rt = HostRuntime;
     for (symbol, plain, alt) in [
         ("_RNvC1a0", "a", "a"),
         ("_RNvCs_1as_1b", "a[1]::b", "a::b"),
@@ -28,13 +25,12 @@ fn nested_names_have_two_colons_between() {
             "<mio::sys::unix::selector::epoll::Selector>::select",
         ),
     ] {
-        assert_prints(&rt, symbol, plain, alt);
+        assert_prints(symbol, plain, alt);
     }
 }
 
 #[test]
 fn special_namespaces_have_a_number() {
-    let rt = HostRuntime;
     for (symbol, text) in [
         ("_RNCC1a0", "a::{closure#0}"),
         ("_RNSC1as_4vtbl", "a::{shim:vtbl#1}"),
@@ -42,13 +38,12 @@ fn special_namespaces_have_a_number() {
         ("_RNCC1as_0", "a::{closure#1}"),
         ("_RNAC1a1b", "a::{A:b#0}"),
     ] {
-        assert_prints(&rt, symbol, text, text);
+        assert_prints(symbol, text, text);
     }
 }
 
 #[test]
 fn implementations_have_no_path() {
-    let rt = HostRuntime;
     for (symbol, text) in [
         ("_RXC0uC1t", "<() as t>"),
         ("_RMC0u", "<()>"),
@@ -56,13 +51,12 @@ fn implementations_have_no_path() {
         ("_RXs_C0uC1t", "<() as t>"),
         ("_RMNvC1a1bC1c", "<c>"),
     ] {
-        assert_prints(&rt, symbol, text, text);
+        assert_prints(symbol, text, text);
     }
 }
 
 #[test]
 fn a_value_has_two_colons_before_its_arguments() {
-    let rt = HostRuntime;
     for (symbol, text) in [
         ("_RIC1aE", "a::<>"),
         ("_RIC1auE", "a::<()>"),
@@ -70,13 +64,12 @@ fn a_value_has_two_colons_before_its_arguments() {
         ("_RMC0IC1auE", "<a<()>>"),
         ("_RYIC1auEIC1tuE", "<a<()> as t<()>>"),
     ] {
-        assert_prints(&rt, symbol, text, text);
+        assert_prints(symbol, text, text);
     }
 }
 
 #[test]
 fn constants_can_be_arguments() {
-    let rt = HostRuntime;
     for (symbol, plain, alt) in [
         ("_RIC1aKj0_E", "a::<0usize>", "a::<0>"),
         (
@@ -85,13 +78,12 @@ fn constants_can_be_arguments() {
             "a::<(), 11, true>",
         ),
     ] {
-        assert_prints(&rt, symbol, plain, alt);
+        assert_prints(symbol, plain, alt);
     }
 }
 
 #[test]
 fn names_in_punycode_are_decoded() {
-    let rt = HostRuntime;
     for (symbol, text) in [
         ("_RCu9bcher_kva", "bücher"),
         ("_RCu3tda", "ü"),
@@ -104,58 +96,53 @@ fn names_in_punycode_are_decoded() {
             "utf8_idents::საჭმელად_გემრიელი_სადილი",
         ),
     ] {
-        assert_prints(&rt, symbol, text, text);
+        assert_prints(symbol, text, text);
     }
 }
 
 #[test]
 fn names_that_are_not_punycode_print_as_they_are() {
-    let rt = HostRuntime;
     for (symbol, text) in [
         ("_RCu3a_A", "punycode{a-A}"),
         ("_RCu1t", "punycode{t}"),
         ("_RCu14_99999999999999", "punycode{99999999999999}"),
         ("_RCu14_9999999999999a", "punycode{9999999999999a}"),
     ] {
-        assert_prints(&rt, symbol, text, text);
+        assert_prints(symbol, text, text);
     }
 }
 
 #[test]
 fn each_prefix_is_read() {
-    let rt = HostRuntime;
     for (symbol, text) in [("_RC1a", "a"), ("RC1a", "a"), ("__RC1a", "a")] {
-        assert_prints(&rt, symbol, text, text);
+        assert_prints(symbol, text, text);
     }
 }
 
 #[test]
 fn an_instantiating_crate_is_not_printed() {
-    let rt = HostRuntime;
     for (symbol, text) in [
         ("_RC1aC1b", "a"),
         ("_RC1aC1b.x", "a.x"),
         ("_RC1aC1b.", "a."),
     ] {
-        assert_prints(&rt, symbol, text, text);
+        assert_prints(symbol, text, text);
     }
 }
 
 #[test]
 fn suffixes_follow_the_path() {
-    let rt = HostRuntime;
     for (symbol, text) in [
         ("_RC1a.llvm.ab", "a.llvm.ab"),
         ("_RC1a.x", "a.x"),
         ("_RC1a.", "a."),
     ] {
-        assert_prints(&rt, symbol, text, text);
+        assert_prints(symbol, text, text);
     }
 }
 
 #[test]
 fn damaged_paths_print_themselves() {
-    let rt = HostRuntime;
     for text in [
         "_R",
         "R",
@@ -179,13 +166,12 @@ fn damaged_paths_print_themselves() {
         "_RC1a b",
         "_RC1a.\x7f",
     ] {
-        assert_rejected(&rt, text, text);
+        assert_rejected(text, text);
     }
 }
 
 #[test]
 fn numbers_of_more_than_64_bits_are_rejected() {
-    let rt = HostRuntime;
     for text in [
         "_RCslYGhA16ahye_1a",
         "_RBlYGhA16ahye_",
@@ -193,14 +179,13 @@ fn numbers_of_more_than_64_bits_are_rejected() {
         "_RC18446744073709551616a",
         "_RC18446744073709551617a",
     ] {
-        assert_rejected(&rt, text, text);
+        assert_rejected(text, text);
     }
 }
 
 #[test]
 fn punycode_without_a_digit_is_rejected() {
-    let rt = HostRuntime;
     for text in ["_RCu1_", "_RCu1__", "_RCu2a_", "_RCu0"] {
-        assert_rejected(&rt, text, text);
+        assert_rejected(text, text);
     }
 }

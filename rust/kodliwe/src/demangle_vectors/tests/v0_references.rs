@@ -1,11 +1,9 @@
 // Made from crates/demangle_vectors/src/tests/v0_references.rt by packaging/crate/erase.py: edit that file instead.
 //! Tests of v0 symbols: back references, and the output for a damaged target.
 use super::{assert_prints, assert_rejected};
-use crate::support::rt::HostRuntime;
 
 #[test]
 fn references_print_their_targets() {
-    let rt = HostRuntime;
     for (symbol, text) in [
         (
             "_RIC1aDIC1buEEL_DB4_p1XhEL_E",
@@ -14,13 +12,12 @@ fn references_print_their_targets() {
         ("_RMC0TC1aB3_E", "<(a, a)>"),
         ("_RIC1aRhB3_E", "a::<&u8, &u8>"),
     ] {
-        assert_prints(&rt, symbol, text, text);
+        assert_prints(symbol, text, text);
     }
 }
 
 #[test]
 fn constants_are_referred_to() {
-    let rt = HostRuntime;
     for (symbol, plain, alt) in [
         ("_RIC1aKj7_KB4_E", "a::<7usize, 7usize>", "a::<7, 7>"),
         (
@@ -29,13 +26,12 @@ fn constants_are_referred_to() {
             "<([u8; 3], [u8; 3])>",
         ),
     ] {
-        assert_prints(&rt, symbol, plain, alt);
+        assert_prints(symbol, plain, alt);
     }
 }
 
 #[test]
 fn pairs_of_pairs() {
-    let rt = HostRuntime;
     for (symbol, text) in [
         ("_RMC0TThEB3_E", "<((u8,), (u8,))>"),
         ("_RMC0TTThEB4_EB3_E", "<(((u8,), (u8,)), ((u8,), (u8,)))>"),
@@ -44,56 +40,50 @@ fn pairs_of_pairs() {
             "<((((u8,), (u8,)), ((u8,), (u8,))), (((u8,), (u8,)), ((u8,), (u8,))))>",
         ),
     ] {
-        assert_prints(&rt, symbol, text, text);
+        assert_prints(symbol, text, text);
     }
 }
 
 #[test]
 fn lifetimes_are_those_of_the_reference() {
-    let rt = HostRuntime;
     for (symbol, text) in [
         ("_RIC5RL0_hFG_B2_EuE", "RL0_h::<for<'a> fn(&'a u8)>"),
         ("_RIC5RL0_hB2_uE", "RL0_h::<&'{invalid syntax} ?, ()>"),
     ] {
-        assert_prints(&rt, symbol, text, text);
+        assert_prints(symbol, text, text);
     }
 }
 
 #[test]
 fn names_and_crates_can_be_targets() {
-    let rt = HostRuntime;
     for (symbol, text) in [
         ("_RIC2C5B2_E.zz", "C5::<B2_E.>.zz"),
         ("_RIC2C6B2_EC1b", "C6::<B2_EC1>"),
         ("_RIC2MCB2_E", "MC::<<?>>"),
     ] {
-        assert_prints(&rt, symbol, text, text);
+        assert_prints(symbol, text, text);
     }
 }
 
 #[test]
 fn a_list_with_a_failed_element_is_closed() {
-    let rt = HostRuntime;
     for (symbol, text) in [
         ("_RIC3TZpB2_E", "TZp::<({invalid syntax},)>"),
         ("_RIC1aB1_E", "a::<{invalid syntax}>"),
         ("_RIC1aB0_E", "a::<a>"),
     ] {
-        assert_prints(&rt, symbol, text, text);
+        assert_prints(symbol, text, text);
     }
 }
 
 #[test]
 fn a_value_over_a_failed_path_stays_open() {
-    let rt = HostRuntime;
-    for (symbol, text) in [("_RIC3VZpKB2_E", "VZp::<{{invalid syntax}?>")] {
-        assert_prints(&rt, symbol, text, text);
-    }
+    let text = "VZp::<{{invalid syntax}?>";
+    assert_prints("_RIC3VZpKB2_E", text, text);
 }
 
 #[test]
 fn errors_inside_a_pattern_or_a_dynamic_type_are_marked() {
-    let rt = HostRuntime;
     for (symbol, text) in [
         (
             "_RIC5WmOZEB2_E",
@@ -105,13 +95,12 @@ fn errors_inside_a_pattern_or_a_dynamic_type_are_marked() {
             "DZEL::<dyn {invalid syntax}{invalid syntax}>",
         ),
     ] {
-        assert_prints(&rt, symbol, text, text);
+        assert_prints(symbol, text, text);
     }
 }
 
 #[test]
 fn an_open_trait_path_stays_open_after_its_reference() {
-    let rt = HostRuntime;
     for (symbol, plain, alt) in [
         (
             "_RYTC20DIC1aDC1bEL_Ep1xmEL_B4_EC1b",
@@ -144,13 +133,12 @@ fn an_open_trait_path_stays_open_after_its_reference() {
             "<(I@@@, dyn {invalid syntax}<, x = u32>) as b>",
         ),
     ] {
-        assert_prints(&rt, symbol, plain, alt);
+        assert_prints(symbol, plain, alt);
     }
 }
 
 #[test]
 fn references_ahead_are_rejected() {
-    let rt = HostRuntime;
     for text in [
         "_RB_",
         "_RIC1aB4_E",
@@ -160,6 +148,6 @@ fn references_ahead_are_rejected() {
         "_RIC1aKB5_E",
         "_RIC1aB_",
     ] {
-        assert_rejected(&rt, text, text);
+        assert_rejected(text, text);
     }
 }

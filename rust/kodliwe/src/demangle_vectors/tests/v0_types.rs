@@ -1,11 +1,9 @@
 // Made from crates/demangle_vectors/src/tests/v0_types.rt by packaging/crate/erase.py: edit that file instead.
 //! Tests of v0 symbols: types, functions, binders and patterns.
 use super::{assert_prints, assert_rejected};
-use crate::support::rt::HostRuntime;
 
 #[test]
 fn basic_types_have_their_names() {
-    let rt = HostRuntime;
     for (symbol, text) in [
         ("_RMC0b", "<bool>"),
         ("_RMC0c", "<char>"),
@@ -29,13 +27,12 @@ fn basic_types_have_their_names() {
         ("_RMC0v", "<...>"),
         ("_RMC0s", "<i16>"),
     ] {
-        assert_prints(&rt, symbol, text, text);
+        assert_prints(symbol, text, text);
     }
 }
 
 #[test]
 fn references_and_pointers() {
-    let rt = HostRuntime;
     for (symbol, text) in [
         ("_RMC0Rh", "<&u8>"),
         ("_RMC0Qh", "<&mut u8>"),
@@ -46,13 +43,12 @@ fn references_and_pointers() {
         ("_RMC0Sh", "<[u8]>"),
         ("_RMC0RSRe", "<&[&str]>"),
     ] {
-        assert_prints(&rt, symbol, text, text);
+        assert_prints(symbol, text, text);
     }
 }
 
 #[test]
 fn arrays_have_a_length() {
-    let rt = HostRuntime;
     for (symbol, plain, alt) in [
         ("_RMC0Ahj3_", "<[u8; 3usize]>", "<[u8; 3]>"),
         (
@@ -62,26 +58,24 @@ fn arrays_have_a_length() {
         ),
         ("_RMC0Ahp", "<[u8; _]>", "<[u8; _]>"),
     ] {
-        assert_prints(&rt, symbol, plain, alt);
+        assert_prints(symbol, plain, alt);
     }
 }
 
 #[test]
 fn tuples() {
-    let rt = HostRuntime;
     for (symbol, text) in [
         ("_RMC0TE", "<()>"),
         ("_RMC0ThE", "<(u8,)>"),
         ("_RMC0ThtE", "<(u8, u16)>"),
         ("_RMC0TThEE", "<((u8,),)>"),
     ] {
-        assert_prints(&rt, symbol, text, text);
+        assert_prints(symbol, text, text);
     }
 }
 
 #[test]
 fn functions() {
-    let rt = HostRuntime;
     for (symbol, text) in [
         ("_RMC0FEu", "<fn()>"),
         ("_RMC0FhEh", "<fn(u8) -> u8>"),
@@ -95,25 +89,23 @@ fn functions() {
         ("_RMC0FThEvEz", "<fn((u8,), ...) -> !>"),
         ("_RMC0FFEuEFEu", "<fn(fn()) -> fn()>"),
     ] {
-        assert_prints(&rt, symbol, text, text);
+        assert_prints(symbol, text, text);
     }
 }
 
 #[test]
 fn an_argument_is_splat() {
-    let rt = HostRuntime;
     for (symbol, text) in [
         ("_RMC0wh", "<#[splat] u8>"),
         ("_RMC0FwThmEEu", "<fn(#[splat] (u8, u32))>"),
         ("_RMC0wC1a", "<#[splat] a>"),
     ] {
-        assert_prints(&rt, symbol, text, text);
+        assert_prints(symbol, text, text);
     }
 }
 
 #[test]
 fn binders_name_their_lifetimes() {
-    let rt = HostRuntime;
     for (symbol, text) in [
         ("_RMC0FG_RL0_hEu", "<for<'a> fn(&'a u8)>"),
         ("_RMC0FG0_RL0_RL1_hEu", "<for<'a, 'b> fn(&'b &'a u8)>"),
@@ -127,13 +119,12 @@ fn binders_name_their_lifetimes() {
         ),
         ("_RMC0DG_INtC1a1bL0_EEL_", "<dyn for<'a> a::b<'a>>"),
     ] {
-        assert_prints(&rt, symbol, text, text);
+        assert_prints(symbol, text, text);
     }
 }
 
 #[test]
 fn dynamic_types() {
-    let rt = HostRuntime;
     for (symbol, text) in [
         ("_RMC0DEL_", "<dyn >"),
         ("_RMC0DC1aEL_", "<dyn a>"),
@@ -143,13 +134,12 @@ fn dynamic_types() {
         ("_RMC0DIC1auEp1Xup1YhEL_", "<dyn a<(), X = (), Y = u8>>"),
         ("_RMC0FG_DC1aEL0_Eu", "<for<'a> fn(dyn a + 'a)>"),
     ] {
-        assert_prints(&rt, symbol, text, text);
+        assert_prints(symbol, text, text);
     }
 }
 
 #[test]
 fn patterns() {
-    let rt = HostRuntime;
     for (symbol, plain, alt) in [
         (
             "_RMC0WmORm1_m2_Rm5_m6_E",
@@ -165,13 +155,12 @@ fn patterns() {
             "<char is 'a'..='z'>",
         ),
     ] {
-        assert_prints(&rt, symbol, plain, alt);
+        assert_prints(symbol, plain, alt);
     }
 }
 
 #[test]
 fn a_lifetime_out_of_scope_is_marked() {
-    let rt = HostRuntime;
     for (symbol, text) in [
         ("_RMC0RL0_u", "<&'{invalid syntax} ?>"),
         (
@@ -184,13 +173,12 @@ fn a_lifetime_out_of_scope_is_marked() {
         ("_RMC0DG_C1aEL0_", "<dyn for<'a> a + '{invalid syntax}>"),
         ("_RMC0WRL0_uN", "<&'{invalid syntax} ? is ?>"),
     ] {
-        assert_prints(&rt, symbol, text, text);
+        assert_prints(symbol, text, text);
     }
 }
 
 #[test]
 fn damaged_types_print_themselves() {
-    let rt = HostRuntime;
     for text in [
         "_RMC0",
         "_RMC0DE",
@@ -206,6 +194,6 @@ fn damaged_types_print_themselves() {
         "_RMC0DC1aL_",
         "_RMC0g",
     ] {
-        assert_rejected(&rt, text, text);
+        assert_rejected(text, text);
     }
 }

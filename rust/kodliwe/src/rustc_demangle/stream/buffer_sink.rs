@@ -21,7 +21,7 @@ impl<'h> BufferSink<'h> {
 }
 
 impl<'h> TextSink for BufferSink<'h> {
-    #[inline(always)]
+    #[cfg_attr(not(debug_assertions), inline(always))]
     fn put(&mut self, s: &str) -> Result<(), SinkRefused> {
         if self.held.push(s.as_bytes()) {
             return Ok(());

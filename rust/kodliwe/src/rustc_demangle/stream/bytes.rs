@@ -1,32 +1,36 @@
 // Made from crates/rustc_demangle/src/stream/bytes.rt by packaging/crate/erase.py: edit that file instead.
 //! Demangles any bytes that come from a reader.
 
+use crate::rustc_demangle::byte_before::ByteBefore;
 use crate::rustc_demangle::format::Format;
 use crate::rustc_demangle::stream::fault::{StreamFault, read_fault};
 use crate::rustc_demangle::stream::memo::SymbolMemo;
-use crate::rustc_demangle::stream::pending_run::{filter_chunk, finish};
+use crate::rustc_demangle::stream::pending_run::{Pending, filter_chunk, finish};
 use crate::rustc_demangle::value::MAX_SIZE;
 use crate::support::alloc::{Allocator, Global};
 use crate::support::vec::Vec;
 use std::io;
 use std::io::{BufRead, Write};
 
-/// A filter of any bytes. It buffers the unfinished run at the end of the bytes so far.
+/// A filter of any bytes. It buffers the unfinished candidate at the end of the bytes so far.
 pub struct BytesFilter<A: Allocator> {
-    pending: Vec<u8, A>,
+    pending: Pending<A>,
 }
 
 impl<A: Allocator> BytesFilter<A> {
     /// Returns a filter that has read no bytes.
     pub fn new(alloc: A) -> Self {
         BytesFilter {
-            pending: Vec::new(alloc),
+            pending: Pending {
+                before: ByteBefore::Outside,
+                bytes: Vec::new(alloc),
+            },
         }
     }
 
     /// Filters some of the reader's available bytes, and writes what is certain. Returns `false` at
-    /// the end of the input, after the pending run is written. The memo determines how symbols are
-    /// printed, and remembers their texts.
+    /// the end of the input, after the pending bytes are written. The memo determines how symbols
+    /// are printed, and remembers their texts.
     ///
     /// # Errors
     ///
@@ -72,12 +76,15 @@ fn run_to_end<R: BufRead, W: Write, A: Allocator>(
 /// at `limit` bytes before its suffix.
 ///
 /// A candidate symbol, or run, starts with `_ZN` or `_R`. It continues up to the next byte that is
-/// not an ASCII letter, a digit, `$`, `.` or `_`. A run that is not a symbol is written unchanged.
+/// not an ASCII letter, a digit, `$`, `.` or `_`. A run that is not a symbol is written unchanged,
+/// and so is one directly after an ASCII letter or digit. A path also replaces a single `_` before
+/// its run, if that `_` is the first byte or follows a byte that no run may have.
 ///
 /// The input is read in the reader's chunks and not by lines. The bytes of a chunk between two runs
 /// are one write. Memory holds the unfinished run at the end of the bytes so far, and a
-/// `SymbolMemo`. So a repeated symbol is one write, and so is a v0 symbol that has at least 20
-/// bytes and prints up to 2,048. Each piece of another symbol is one write.
+/// `SymbolMemo`. So a repeated symbol is one write. So is a v0 symbol or a legacy symbol with a
+/// hash, if it has 20 to 2,048 bytes and prints up to 2,048. Each piece of another symbol is one
+/// write.
 ///
 /// # Errors
 ///

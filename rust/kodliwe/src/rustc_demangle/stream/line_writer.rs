@@ -5,6 +5,7 @@ use crate::demangle_sink::WriteSink;
 use crate::rustc_demangle::format::Format;
 use crate::rustc_demangle::text::demangle_text;
 use crate::rustc_demangle::value::Demangle;
+
 use std::io;
 use std::io::Write;
 
@@ -24,8 +25,7 @@ fn write_text<W: Write>(text: &str, output: &mut W) -> io::Result<()> {
     output.write_all(text.as_bytes())
 }
 
-/// Writes the replacement of a run: the printed symbol, or the run itself if it is not a symbol.
-/// Fails if the writer fails.
+/// Writes the replacement of a run as `write_run` does that decide whether it is a symbol.
 pub(super) fn write_run<W: Write>(run: &str, output: &mut W, format: Format) -> io::Result<()> {
     let symbol = Demangle::read_run(run);
     if symbol.has_style() {

@@ -1,12 +1,13 @@
 // Made from crates/rustc_demangle/src/stream/memo.rt by packaging/crate/erase.py: edit that file instead.
 //! Remembers the symbols that a filter printed.
 
-use crate::piece_buffer::PieceBuffer;
 use crate::rustc_demangle::format::Format;
 use crate::rustc_demangle::stream::buffer_sink::BufferSink;
 use crate::rustc_demangle::stream::line_writer::write_run;
 use crate::rustc_demangle::value::Demangle;
-use crate::rustc_demangle::value::printing::print_v0_run;
+use crate::rustc_demangle::value::printing::{print_legacy_run, print_v0_run};
+
+use crate::piece_buffer::PieceBuffer;
 use crate::support::alloc::Global;
 use std::io;
 use std::io::Write;
@@ -32,7 +33,7 @@ struct Probe {
 
 impl Probe {
     /// Returns whether the memo is on. If it is off, this run counts as one of the pause.
-    #[inline(always)]
+    #[cfg_attr(not(debug_assertions), inline(always))]
     fn is_on(&mut self) -> bool {
         if self.pause == 0 {
             return true;
@@ -42,13 +43,13 @@ impl Probe {
     }
 
     /// Counts a lookup that found a text.
-    #[inline(always)]
+    #[cfg_attr(not(debug_assertions), inline(always))]
     fn hit(&mut self) {
         self.misses = self.misses.saturating_sub(HIT_WORTH);
     }
 
     /// Counts a lookup that found nothing.
-    #[inline(always)]
+    #[cfg_attr(not(debug_assertions), inline(always))]
     fn miss(&mut self) {
         self.misses = self.misses.saturating_add(1);
         if self.misses >= MAX_MISSES {
@@ -66,10 +67,10 @@ struct Store {
 
 /// A memo of printed symbols, with which a filter does not parse a repeated symbol again.
 ///
-/// It belongs to one format, in which all its texts were printed. It uses at most 4.5 MB of memory:
-/// 32 KB if no symbol repeats, and none if there are no symbols. If memory can't be allocated,
-/// symbols are parsed as without a memo. The memo turns itself off for a while if few symbols
-/// repeat.
+/// It belongs to one format, in which all its texts were printed. It allocates at most 4.5 MB of
+/// memory: 32 KB if no symbol repeats, and none if there are no symbols. A lookup compares at most
+/// two symbols. If memory can't be allocated, symbols are parsed as without a memo. The memo turns
+/// itself off for a while if few symbols repeat.
 pub struct SymbolMemo {
     format: Format,
     store: Store,
@@ -82,17 +83,24 @@ fn print_to_buffer(symbol: &Demangle<'_>, held: &mut PieceBuffer, format: Format
     symbol.write_formatted(&mut sink, format).is_ok()
 }
 
-/// Prints a v0 symbol into the buffer before it is known whether the run is one. Returns `false` if
+/// Returns whether a run, or a run with the `_` before it, starts as a v0 symbol.
+#[cfg_attr(not(debug_assertions), inline(always))]
+fn starts_as_v0(run: &[u8]) -> bool {
+    (run.len() > 2) && ((run[1] == b'R') | ((run[1] == b'_') & (run[2] == b'R')))
+}
+
+/// Prints a symbol into the buffer before it is known whether the run is one. Returns `false` if
 /// that is still unknown, or if the buffer has no room for the text. Then the buffer may have a
 /// part of it.
-#[inline(always)]
+#[cfg_attr(not(debug_assertions), inline(always))]
 fn print_first(run: &str, held: &mut PieceBuffer, format: Format) -> bool {
-    if run.as_bytes()[1] != b'R' {
-        return false;
-    }
     held.clear();
     let mut sink = BufferSink::new(held);
-    print_v0_run(run, &mut sink, format)
+    if starts_as_v0(run.as_bytes()) {
+        print_v0_run(run, &mut sink, format, format.limit)
+    } else {
+        print_legacy_run(run, &mut sink, format)
+    }
 }
 
 /// How the text of a run was found.
@@ -109,13 +117,13 @@ enum Printed {
 /// Returns whether a run is looked up. It must start as a v0 symbol, or end with the hash of a
 /// legacy symbol or the digit of a suffix. It must not be too short or too long. Most other runs
 /// are not symbols.
-#[inline(always)]
+#[cfg_attr(not(debug_assertions), inline(always))]
 fn is_looked_up(run: &[u8]) -> bool {
     if run.len() < 20 || run.len() > MAX_KEY {
         return false;
     }
     let end = run.len();
-    (run[1] == b'R')
+    starts_as_v0(run)
         | ((run[end - 1] == b'E') & (run[end - 18] == b'h') & (run[end - 19] == b'7'))
         | run[end - 1].is_ascii_digit()
 }
@@ -169,8 +177,14 @@ impl SymbolMemo {
         }
     }
 
+    /// Returns the number of bytes of memory that the memo has allocated, which is at most 4.5 MB.
+    #[cfg(all(test, feature = "stream"))]
+    pub fn allocated(&self) -> usize {
+        self.store.texts.allocated()
+    }
+
     /// Writes the text of a run that is not remembered. Fails if the writer fails.
-    #[inline(always)]
+    #[cfg_attr(not(debug_assertions), inline(always))]
     fn write_once<W: Write>(&mut self, run: &str, output: &mut W) -> io::Result<()> {
         if print_first(run, &mut self.store.printed, self.format) {
             return output.write_all(self.store.printed.as_slice());
@@ -180,13 +194,14 @@ impl SymbolMemo {
 
     /// Writes the text of a run that is not in the memo. The text is remembered if the run came
     /// before. Fails if the writer fails.
-    #[inline(always)]
+    #[cfg_attr(not(debug_assertions), inline(always))]
     fn write_new<W: Write>(&mut self, run: &str, hash: u64, output: &mut W) -> io::Result<()> {
         match self.store.texts.note(hash) {
             Noted::Again => {}
             Noted::New => return self.write_once(run, output),
             Noted::TooLong => return write_run(run, output, self.format),
         }
+
         match print_new(run, hash, self.format, &mut self.store) {
             Printed::Symbol => output.write_all(self.store.printed.as_slice()),
             Printed::NoSymbol => output.write_all(run.as_bytes()),
@@ -204,6 +219,7 @@ impl SymbolMemo {
             return self.write_once(run, output);
         }
         let hash = hash_of(run.as_bytes());
+
         if let Some(text) = self.store.texts.get(run.as_bytes(), hash) {
             self.probe.hit();
             return output.write_all(text);

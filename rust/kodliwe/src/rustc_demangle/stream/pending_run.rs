@@ -1,13 +1,21 @@
 // Made from crates/rustc_demangle/src/stream/pending_run.rt by packaging/crate/erase.py: edit that file instead.
-//! Filters bytes that arrive in chunks. Plain text and finished runs are written, and an unfinished
-//! run is buffered.
+//! Filters bytes that arrive in chunks. Plain text and finished candidates are written, and an
+//! unfinished candidate is buffered.
 
-use crate::rustc_demangle::runs::{run_len, run_start, run_text, starts_run};
+use crate::rustc_demangle::byte_before::ByteBefore;
+use crate::rustc_demangle::runs::{run_len, run_start, run_text};
 use crate::rustc_demangle::stream::fault::StreamFault;
 use crate::rustc_demangle::stream::memo::SymbolMemo;
 use crate::support::alloc::Allocator;
 use crate::support::vec::Vec;
 use std::io::Write;
+
+/// The bytes that a filter read and has not written.
+pub(super) struct Pending<A: Allocator> {
+    /// What is before them.
+    pub(super) before: ByteBefore,
+    pub(super) bytes: Vec<u8, A>,
+}
 
 /// Writes bytes with one call of the writer, or with none if there are no bytes. Fails if the
 /// writer fails.
@@ -21,13 +29,17 @@ fn write_unchanged<W: Write>(bytes: &[u8], output: &mut W) -> Result<(), StreamF
     }
 }
 
-/// Writes the replacement of a run. Fails if the writer fails.
-fn write_run_bytes<W: Write>(
-    run: &[u8],
+/// Writes the replacement of a candidate. Fails if the writer fails.
+fn write_candidate<W: Write>(
+    candidate: &[u8],
+    before: ByteBefore,
     output: &mut W,
     memo: &mut SymbolMemo,
 ) -> Result<(), StreamFault> {
-    match memo.write_run(run_text(run), output) {
+    if before.is_alphanumeric() {
+        return write_unchanged(candidate, output);
+    }
+    match memo.write_run(run_text(candidate), output) {
         Ok(()) => Ok(()),
         Err(error) => Err(StreamFault::Write(error)),
     }
@@ -36,16 +48,19 @@ fn write_run_bytes<W: Write>(
 /// Writes the filtered form of the pending text, which is complete. Clears the text, even if the
 /// writer fails.
 pub(super) fn finish<W: Write, A: Allocator>(
-    pending: &mut Vec<u8, A>,
+    pending: &mut Pending<A>,
     output: &mut W,
     memo: &mut SymbolMemo,
 ) -> Result<(), StreamFault> {
-    let written = if starts_run(pending.as_slice()) {
-        write_run_bytes(pending.as_slice(), output, memo)
+    let before = pending.before;
+    let text = pending.bytes.as_slice();
+    let written = if before.starts_candidate(text) {
+        write_candidate(text, before, output, memo)
     } else {
-        write_unchanged(pending.as_slice(), output)
+        write_unchanged(text, output)
     };
-    pending.clear();
+    pending.before = before.after(text);
+    pending.bytes.clear();
     written
 }
 
@@ -70,43 +85,45 @@ fn partial_prefix_len(text: &[u8]) -> usize {
     }
 }
 
-/// Returns whether a pending `_` or `_Z` may still start a run when this byte follows.
-fn extends_prefix(pending: &[u8], byte: u8) -> bool {
-    if pending.len() == 1 {
-        (byte == b'R') | (byte == b'Z')
-    } else {
+/// Returns whether pending bytes that are no candidate may still start one when this byte follows.
+fn extends_prefix(before: ByteBefore, pending: &[u8], byte: u8) -> bool {
+    let last = pending[pending.len() - 1];
+    if last == b'Z' {
         byte == b'N'
+    } else {
+        let may_take = (byte == b'_') & (pending.len() == 1) & before.is_outside();
+        (byte == b'R') | (byte == b'Z') | may_take
     }
 }
 
-/// Appends one byte to a pending `_` or `_Z` and returns 1, if it may still start a run. Otherwise
-/// writes the pending bytes as plain text and returns 0. Fails if the writer fails or memory can't
-/// be allocated.
+/// Appends one byte to pending bytes that are no candidate and returns 1, if they may still start
+/// one. Otherwise writes the pending bytes as plain text and returns 0. Fails if the writer fails
+/// or memory can't be allocated.
 fn extend_prefix<W: Write, A: Allocator>(
-    pending: &mut Vec<u8, A>,
+    pending: &mut Pending<A>,
     available: &[u8],
     output: &mut W,
     memo: &mut SymbolMemo,
 ) -> Result<usize, StreamFault> {
-    if extends_prefix(pending.as_slice(), available[0]) {
-        buffer_bytes(pending, &available[..1])?;
+    if extends_prefix(pending.before, pending.bytes.as_slice(), available[0]) {
+        buffer_bytes(&mut pending.bytes, &available[..1])?;
         return Ok(1);
     }
     finish(pending, output, memo)?;
     Ok(0)
 }
 
-/// Appends the bytes that continue the pending run, and returns their number. Writes the run's
-/// replacement if the run ends before the chunk does. Fails if the writer fails or memory can't be
-/// allocated.
-fn extend_run<W: Write, A: Allocator>(
-    pending: &mut Vec<u8, A>,
+/// Appends the bytes that continue the pending candidate, and returns their number. Writes the
+/// candidate's replacement if it ends before the chunk does. Fails if the writer fails or memory
+/// can't be allocated.
+fn extend_candidate<W: Write, A: Allocator>(
+    pending: &mut Pending<A>,
     available: &[u8],
     output: &mut W,
     memo: &mut SymbolMemo,
 ) -> Result<usize, StreamFault> {
     let len = run_len(available);
-    buffer_bytes(pending, &available[..len])?;
+    buffer_bytes(&mut pending.bytes, &available[..len])?;
     if len < available.len() {
         finish(pending, output, memo)?;
     }
@@ -115,48 +132,55 @@ fn extend_run<W: Write, A: Allocator>(
 
 /// Filters a chunk when nothing is pending, and returns how many bytes it used.
 ///
-/// Writes everything up to the end of the first run. If the chunk ends inside a run, or may end
-/// with the start of one, that part becomes pending. The text before it is written. Fails if the
-/// writer fails or memory can't be allocated.
+/// Writes everything up to the end of the first candidate. If the chunk ends inside a candidate, or
+/// may end with the start of one, that part becomes pending. The text before it is written. Fails
+/// if the writer fails or memory can't be allocated.
 fn filter_text<W: Write, A: Allocator>(
-    pending: &mut Vec<u8, A>,
+    pending: &mut Pending<A>,
     available: &[u8],
     output: &mut W,
     memo: &mut SymbolMemo,
 ) -> Result<usize, StreamFault> {
+    let before = pending.before;
     let Some(start) = run_start(available) else {
-        let (kept, beginning) = available.split_at(available.len() - partial_prefix_len(available));
+        let place = available.len() - partial_prefix_len(available);
+        let (kept, beginning) = available.split_at(before.plain_len(&available[..place]));
         // Buffered before anything is written. If memory can't be allocated, the caller can repeat
         // the step.
-        buffer_bytes(pending, beginning)?;
+        buffer_bytes(&mut pending.bytes, beginning)?;
+        pending.before = before.after(kept);
         write_unchanged(kept, output)?;
         return Ok(available.len());
     };
-    let (kept, found) = available.split_at(start);
+    let (kept, found) = available.split_at(before.plain_len(&available[..start]));
     let len = run_len(found);
+    let before_found = before.after(kept);
     if len == found.len() {
-        buffer_bytes(pending, found)?;
+        buffer_bytes(&mut pending.bytes, found)?;
+        pending.before = before_found;
         write_unchanged(kept, output)?;
         return Ok(available.len());
     }
     write_unchanged(kept, output)?;
-    write_run_bytes(&found[..len], output, memo)?;
-    Ok(start + len)
+    let candidate = &found[..len];
+    write_candidate(candidate, before_found, output, memo)?;
+    pending.before = before_found.after(candidate);
+    Ok(kept.len() + len)
 }
 
 /// Filters a prefix of the available bytes, and returns its length. Writes all that is certain; an
-/// unfinished run stays pending. Fails if the writer fails or memory can't be allocated.
+/// unfinished candidate stays pending. Fails if the writer fails or memory can't be allocated.
 pub(super) fn filter_chunk<W: Write, A: Allocator>(
-    pending: &mut Vec<u8, A>,
+    pending: &mut Pending<A>,
     available: &[u8],
     output: &mut W,
     memo: &mut SymbolMemo,
 ) -> Result<usize, StreamFault> {
-    if pending.is_empty() {
+    if pending.bytes.is_empty() {
         return filter_text(pending, available, output, memo);
     }
-    if starts_run(pending.as_slice()) {
-        return extend_run(pending, available, output, memo);
+    if pending.before.starts_candidate(pending.bytes.as_slice()) {
+        return extend_candidate(pending, available, output, memo);
     }
     extend_prefix(pending, available, output, memo)
 }

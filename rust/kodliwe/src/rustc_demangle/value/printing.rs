@@ -2,7 +2,6 @@
 //! Prints symbols into sinks, cut at a limit.
 
 use crate::demangle_sink::{SinkRefused, SizeLimitedFmtAdapter, TextSink, put_piece};
-use crate::demangle_symbol::cursor::Looks;
 use crate::rustc_demangle::format::Format;
 use crate::rustc_demangle::strip::without_thin_lto;
 use crate::rustc_demangle::value::{Demangle, DemangleStyle, MAX_SIZE, is_allowed};
@@ -12,10 +11,9 @@ fn write_cut<S: TextSink>(
     style: &DemangleStyle<'_>,
     out: &mut S,
     format: Format,
-    looks: &mut Looks,
 ) -> Result<(), SinkRefused> {
     let mut limited = SizeLimitedFmtAdapter::new(out, format.limit);
-    let result = style.write_to(&mut limited, format, looks);
+    let result = style.write_to(&mut limited, format);
     // Printing stops in the same way at the limit and if the sink fails. Only a sink that has not
     // failed gets the marker.
     if limited.is_limit_reached() {
@@ -26,41 +24,30 @@ fn write_cut<S: TextSink>(
 }
 
 impl Demangle<'_> {
-    /// Writes the pieces of the symbol into a sink, cut at the limit before the suffix, and counts
-    /// its looks. Fails if the sink fails.
+    /// Writes the pieces of the symbol into a sink, cut at the limit before the suffix. Fails if
+    /// the sink fails.
     pub(crate) fn write_pieces<S: TextSink>(
         &self,
         out: &mut S,
         format: Format,
-        looks: &mut Looks,
     ) -> Result<(), SinkRefused> {
         let Some(style) = &self.style else {
             return put_piece(self.original, out);
         };
-        write_cut(style, out, format, looks)?;
+        write_cut(style, out, format)?;
         put_piece(self.suffix, out)
     }
 
-    /// Prints into a sink in a format, and counts its looks, as `write_limited_counted` does.
-    pub fn write_formatted_counted<S: TextSink>(
-        &self,
-        out: &mut S,
-        format: Format,
-        looks: &mut Looks,
-    ) -> Result<(), SinkRefused> {
-        self.write_pieces(out, format, looks)
-    }
-
-    /// Prints into a sink in a format, as `write_formatted_counted` does.
+    /// Prints into a sink in a format, as `write_limited` does.
     pub fn write_formatted<S: TextSink>(
         &self,
         out: &mut S,
         format: Format,
     ) -> Result<(), SinkRefused> {
-        self.write_formatted_counted(out, format, &mut Looks::new())
+        self.write_pieces(out, format)
     }
 
-    /// Prints into a sink, cut at `limit` bytes before the suffix, and counts its looks.
+    /// Prints into a sink, cut at `limit` bytes before the suffix.
     ///
     /// The path ends before a piece that would exceed the limit. Then `{size limit reached}` and
     /// the suffix follow. A text that is not a symbol has no limit. If all pieces fit into the
@@ -70,69 +57,46 @@ impl Demangle<'_> {
     ///
     /// Fails exactly if the sink failed during this call. The sink then gets no further piece. A
     /// sink that keeps what it took holds the pieces before the rejected one.
-    pub fn write_limited_counted<S: TextSink>(
-        &self,
-        out: &mut S,
-        include_hash: bool,
-        limit: usize,
-        looks: &mut Looks,
-    ) -> Result<(), SinkRefused> {
-        let format = Format::unfolded(include_hash, limit);
-        self.write_formatted_counted(out, format, looks)
-    }
-
-    /// Prints into a sink, cut at `limit` bytes before the suffix, as `write_limited_counted` does.
     pub fn write_limited<S: TextSink>(
         &self,
         out: &mut S,
         include_hash: bool,
         limit: usize,
     ) -> Result<(), SinkRefused> {
-        self.write_limited_counted(out, include_hash, limit, &mut Looks::new())
+        let format = Format::unfolded(include_hash, limit);
+        self.write_formatted(out, format)
     }
 
     /// Prints into a sink with `_` for each list of generic arguments, cut at `limit` bytes before
-    /// the suffix, and counts its looks.
+    /// the suffix.
     ///
     /// So all instances of a generic function have one name: `foo::bar::<_>` for `foo::bar::<u8>`.
     /// A list is read and not printed. No reference in it is followed, and no lifetime in it is
-    /// checked. All else prints as by `write_limited_counted`. A legacy symbol prints completely,
-    /// because its arguments are parts of names.
+    /// checked. If the list itself prints without an error, all else prints as by
+    /// `write_limited`. A legacy symbol prints completely, because its arguments are parts
+    /// of names.
     ///
     /// # Errors
     ///
-    /// Fails exactly if the sink failed during this call, as `write_limited_counted` says.
-    pub fn write_folded_counted<S: TextSink>(
-        &self,
-        out: &mut S,
-        include_hash: bool,
-        limit: usize,
-        looks: &mut Looks,
-    ) -> Result<(), SinkRefused> {
-        let format = Format::folded(include_hash, limit);
-        self.write_formatted_counted(out, format, looks)
-    }
-
-    /// Prints into a sink with `_` for each list of generic arguments, cut at `limit` bytes before
-    /// the suffix, as `write_folded_counted` does.
+    /// Fails exactly if the sink failed during this call, as `write_limited` says.
     pub fn write_folded<S: TextSink>(
         &self,
         out: &mut S,
         include_hash: bool,
         limit: usize,
     ) -> Result<(), SinkRefused> {
-        self.write_folded_counted(out, include_hash, limit, &mut Looks::new())
+        let format = Format::folded(include_hash, limit);
+        self.write_formatted(out, format)
     }
 
-    /// Prints into a sink, cut at 1,000,000 bytes before the suffix, and counts its looks, as
-    /// `write_limited_counted` does.
+    /// Prints into a sink, cut at 1,000,000 bytes before the suffix, as `write_limited` does.
+    #[cfg(all(test, feature = "stream"))]
     pub fn write_counted<S: TextSink>(
         &self,
         out: &mut S,
         include_hash: bool,
-        looks: &mut Looks,
     ) -> Result<(), SinkRefused> {
-        self.write_limited_counted(out, include_hash, MAX_SIZE, looks)
+        self.write_limited(out, include_hash, MAX_SIZE)
     }
 
     /// Prints into a sink, cut at 1,000,000 bytes before the suffix, with or without the hash of a
@@ -140,7 +104,7 @@ impl Demangle<'_> {
     ///
     /// # Errors
     ///
-    /// Fails exactly if the sink failed during this call, as `write_limited_counted` says.
+    /// Fails exactly if the sink failed during this call, as `write_limited` says.
     pub fn write_to<S: TextSink>(
         &self,
         out: &mut S,
@@ -152,23 +116,41 @@ impl Demangle<'_> {
 
 /// Prints a run that is a v0 symbol, in one pass over its first path. A run is ASCII.
 ///
-/// Returns `false` if the run is not a v0 symbol, as `demangle_v0::demangle_printed` does. Then an
-/// unknown part of the symbol may be in the sink, and `Demangle::read_run` says what the run is.
+/// Returns `false` if the run is not a v0 symbol, as `demangle_v0::demangle_printed` does, or if the
+/// path has more than `limit` bytes. Then an unknown part of the symbol may be in the sink, and
+/// `Demangle::read_run` says what the run is.
 #[inline(never)]
-pub(crate) fn print_v0_run<S: TextSink>(run: &str, out: &mut S, format: Format) -> bool {
+pub(crate) fn print_v0_run<S: TextSink>(
+    run: &str,
+    out: &mut S,
+    format: Format,
+    limit: usize,
+) -> bool {
     let text = without_thin_lto(run);
-    let mut limited = SizeLimitedFmtAdapter::new(out, format.limit);
-    let read = crate::demangle_v0::demangle_printed(
-        text,
-        &mut limited,
-        format.include_hash,
-        format.fold_arguments,
-    );
+    let mut limited = SizeLimitedFmtAdapter::new(out, limit);
+    let read = crate::demangle_v0::demangle_printed(text, &mut limited, format.form());
     let Some((_, suffix)) = read else {
         return false;
     };
-    let mut looks = Looks::new();
-    is_allowed(suffix, &mut looks) && put_piece(suffix, out).is_ok()
+    is_allowed(suffix) && put_piece(suffix, out).is_ok()
+}
+
+/// Prints a run that is a legacy symbol, in one pass. A run is ASCII.
+///
+/// Returns `false` if the run is not a legacy symbol, as `demangle_legacy::demangle_printed` does.
+/// Then an unknown part of the symbol may be in the sink, and `Demangle::read_run` says what the
+/// run is.
+#[cfg(feature = "stream")]
+#[inline(never)]
+pub(crate) fn print_legacy_run<S: TextSink>(run: &str, out: &mut S, format: Format) -> bool {
+    let text = without_thin_lto(run);
+    let mut limited = SizeLimitedFmtAdapter::new(out, format.limit);
+    let read = crate::demangle_legacy::demangle_printed(text, &mut limited, format.form());
+    let Some((_, suffix)) = read else {
+        return false;
+    };
+    let allowed = is_allowed(suffix);
+    allowed && put_piece(suffix, out).is_ok()
 }
 
 /// Prints a text into a sink; its path has `path_len` bytes. Fails if the sink fails.
@@ -180,15 +162,15 @@ fn write_pieces_with_path_len<S: TextSink>(
     limit: usize,
 ) -> Result<(), SinkRefused> {
     let format = Format::unfolded(include_hash, limit);
-    let mut looks = Looks::new();
-    let Some(symbol) = crate::demangle_v0::ascii_symbol(text, &mut looks) else {
-        let read = Demangle::read(text, false, &mut looks);
-        return read.write_pieces(out, format, &mut looks);
+
+    let Some(symbol) = crate::demangle_v0::ascii_symbol(text) else {
+        let read = Demangle::read(text, false);
+        return read.write_pieces(out, format);
     };
     // The caller may pass any number.
     let suffix = &text[path_len.min(text.len())..];
     let style = DemangleStyle::V0(symbol);
-    write_cut(&style, out, format, &mut looks)?;
+    write_cut(&style, out, format)?;
     put_piece(suffix, out)
 }
 

@@ -1,4 +1,3 @@
-use Rattle.demangle_v0_grammar.specs.Reading.{form}
 use Rattle.demangle_v0.proofs.WholePaths.{valid_first}
 use Rattle.demangle_v0.proofs.PrintLoop.{prints_so, prints_most}
 use Rattle.demangle_v0.proofs.value.Demangle.write_to.Goals as goal
@@ -8,10 +7,10 @@ print_path-printed-requires-clause-valid g c = rw c.at_path-parser.ensures (vali
 
 pub returns-clause-prints : goal.returns-clause-prints
 returns-clause-prints g c =
-    rw (← c.self.view_is) (prints_so g.S.TextSink c.self.inside.inner (form c.args.include_hash c.args.fold_arguments) _ c.requires
+    rw (← c.self.view_is) (prints_so g.S.TextSink c.self.inside.inner c.args.form _ c.requires
     (rw c.at_path-parser.ensures at c.print_path-printed.ensures.ended))
 
 pub returns-clause-most : goal.returns-clause-most
 returns-clause-most g c =
-    rw (← c.self.view_is) (prints_most g.S.TextSink c.self.inside.inner (form c.args.include_hash c.args.fold_arguments) _ c.requires
+    rw (← c.self.view_is) (prints_most g.S.TextSink c.self.inside.inner c.args.form _ c.requires
     (rw c.at_path-parser.ensures at c.print_path-printed.ensures.ended))

@@ -1,6 +1,7 @@
 use Rattle.std.proofs.Common.{◌∷◌, subst, sym}
 use Rattle.std.proofs.lemmas.Result.{err_from_is_err_and}
-use Rattle.kodliwe.specs.CommandLine.{ParsesTo, a_symbol, options_of, is_value, is_refused, is_symbol}
+use Rattle.kodliwe.specs.declared.about.About.TheVariants.{Completions}
+use Rattle.kodliwe.specs.CommandLine.{ParsesTo, prints, a_symbol, options_of, is_value, is_refused, is_shell, is_bad_shell, is_symbol}
 use Rattle.kodliwe.specs.OneArgument.{Rejects, expected_of}
 use Rattle.kodliwe.proofs.ArgumentLemmas.{refusal_then}
 use Rattle.kodliwe.proofs.arguments.Request.parse_argument.Goals as goal
@@ -19,3 +20,16 @@ pub returns-in_ok-add_symbol-in-Symbol-clause-takes : goal.returns-in_ok-add_sym
 returns-in_ok-add_symbol-in-Symbol-clause-takes c = λ arguments answer asks.
     subst (λ n. ParsesTo (expected_of n) (options_of c.args.self.now) (c.args.argument.now ∷ arguments) answer) (sym c.in-Symbol.is)
     (is_symbol (subst (λ o. ParsesTo a_symbol o arguments answer) c.in_ok-add_symbol-in-Symbol.ensures asks))
+
+pub returns-in_err-shell-in-Shell-clause-refused : goal.returns-in_err-shell-in-Shell-clause-refused
+returns-in_err-shell-in-Shell-clause-refused c =
+    let left = c.from_residual-in_err-shell-in-Shell in
+    let p = err_from_is_err_and left.result left.ensures.1 in
+    rw (p.1, p.2) (refusal_then _ (λ answer refused.
+    subst (λ n. Rejects (expected_of n) (options_of c.args.self.now) c.args.argument.now answer) (sym c.in-Shell.is) (λ arguments. is_bad_shell refused)) c.in_err-shell-in-Shell.ensures.refused)
+
+pub returns-in_ok-shell-in-Shell-clause-takes : goal.returns-in_ok-shell-in-Shell-clause-takes
+returns-in_ok-shell-in-Shell-clause-takes c = λ arguments.
+    let shell = c.in_ok-shell-in-Shell.shell in
+    subst (λ n. ParsesTo (expected_of n) (options_of c.args.self.now) (c.args.argument.now ∷ arguments) (prints (Completions shell))) (sym c.in-Shell.is)
+    (is_shell shell c.in_ok-shell-in-Shell.ensures.named)

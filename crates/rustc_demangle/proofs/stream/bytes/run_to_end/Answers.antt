@@ -14,7 +14,7 @@ returns-in_err-step-clause-err g c =
     rw (p.1, p.2) (passing_err _ _ _ _ _ _ _ _ _ _ c.loop.invariant.0 c.in_err-step.ensures.refused)
 
 pub returns-then-not-branch-clause-ok : goal.returns-then-not-branch-clause-ok
-returns-then-not-branch-clause-ok g c = passing_end _ _ _ _ _ _ _ _ _ c.loop.invariant.0 (ended_same c.loop.memo c.args.memo.now _ _ _ _ _ _ c.loop.invariant.1 (c.in_ok-step.ensures.ended (ap Ok c.if-not-branch.true)))
+returns-then-not-branch-clause-ok g c = passing_end _ _ c.loop.filter c.step.new.self _ _ _ _ _ c.loop.invariant.0 (ended_same c.loop.memo c.args.memo.now c.loop.filter c.step.new.self _ _ _ _ c.loop.invariant.1 (c.in_ok-step.ensures.ended (ap Ok c.if-not-branch.true)))
 
 pub loop-preserved : goal.loop-preserved
 loop-preserved g c = (

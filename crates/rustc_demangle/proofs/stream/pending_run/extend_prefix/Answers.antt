@@ -1,17 +1,15 @@
-use Rattle.std.proofs.Common.{inl, inr, ap, arith, length, take}
-use Rattle.std.proofs.lemmas.List.{length-append, length-take}
-use Rattle.rustc_demangle.proofs.ByteStreamLemmas.{passed_none, moved}
+use Rattle.std.proofs.Common.{◌≡◌, ◌++◌, ◌∷◌, [], get_or, refl, sym, ap, subst, ◌∙◌}
+use Rattle.rustc_demangle.specs.ByteStream.{unwritten, IsPartialCandidate}
+use Rattle.rustc_demangle.proofs.ByteStreamLemmas.{first_byte, passed_moved}
 use Rattle.rustc_demangle.proofs.stream.pending_run.extend_prefix.Goals as goal
 
+pub returns-then-extends_prefix-clause-pending : goal.returns-then-extends_prefix-clause-pending
+returns-then-extends_prefix-clause-pending g c =
+    let held = c.args.pending.now.bytes.items in
+    let available = c.args.available.now in
+    let same : c.as_slice.result.now ++ get_or available 0 0 ∷ [] ≡ c.buffer_bytes.new.pending.items =
+    ap (λ l. l ++ get_or available 0 0 ∷ []) c.as_slice.ensures.value ∙ ap (λ l. held ++ l) (sym (first_byte available c.requires.some)) ∙ sym c.in_ok-buffer_bytes.ensures.ok in
+    subst (λ l. IsPartialCandidate (unwritten c.args.pending.now.before l)) same (c.extends_prefix.ensures.on c.if-extends_prefix.true)
+
 pub returns-then-extends_prefix-clause-ok : goal.returns-then-extends_prefix-clause-ok
-returns-then-extends_prefix-clause-ok g c = λ more. passed_none _ _ _ _ (moved c.args.pending.now.items c.buffer_bytes.new.pending.items c.args.available.now more 1 c.in_ok-buffer_bytes.ensures.ok)
-
-pub returns-then-extends_prefix-clause-less : goal.returns-then-extends_prefix-clause-less
-returns-then-extends_prefix-clause-less g c =
-    omega (arith, ap length c.in_ok-buffer_bytes.ensures.ok, length-append c.args.pending.now.items (take 1 c.args.available.now), length-take 1 c.args.available.now)
-
-pub returns-clause-less : goal.returns-clause-less
-returns-clause-less g c = elim c.requires.beginning [
-  | inl e ↦ omega (arith, ap length e, ap length c.finish.ensures.none)
-  | inr e ↦ omega (arith, ap length e, ap length c.finish.ensures.none)
-]
+returns-then-extends_prefix-clause-ok g c = passed_moved _ _ _ _ _ _ 1 _ refl c.in_ok-buffer_bytes.ensures.ok

@@ -1,21 +1,26 @@
 use Rattle.std.proofs.Common.{◌≡◌, true, false, ap, subst, sym, ◌∙◌}
 use Rattle.std.proofs.lemmas.Result.{on_ok_weaker}
 use Rattle.std.specs.Io.KnownBytes.{Appends}
-use Rattle.rustc_demangle.specs.Filtered.{starts_run, replacement_in, filtered_in}
-use Rattle.rustc_demangle.proofs.ByteStreamLemmas.{finished_run, finished_kept}
-use Rattle.rustc_demangle.proofs.stream.pending_run.finish.Goals.{then-starts_run, else-starts_run}
+use Rattle.rustc_demangle.specs.Rewritten.{starts_candidate, replacement_after, rewritten_after}
+use Rattle.rustc_demangle.specs.ByteStream.{unwritten}
+use Rattle.rustc_demangle.proofs.ByteStreamLemmas.{finished_candidate, finished_kept}
+use Rattle.rustc_demangle.proofs.stream.pending_run.finish.Goals.{then-starts_candidate, else-starts_candidate}
 use Rattle.rustc_demangle.proofs.stream.pending_run.finish.Goals as goal
 
 pub returns-clause-ok : goal.returns-clause-ok
-returns-clause-ok g c = elim c.if-starts_run.branch [
-  | then-starts_run w ↦
-      let some : starts_run c.args.pending.now.items ≡ true = ap starts_run (sym c.as_slice.ensures.value) ∙ sym c.starts_run.ensures ∙ w.if-starts_run.true in
-      let text : replacement_in c.args.memo.now w.as_slice-then-starts_run.result.now ≡ filtered_in c.args.memo.now c.args.pending.now.items =
-      ap (replacement_in c.args.memo.now) w.as_slice-then-starts_run.ensures.value ∙ finished_run (replacement_in c.args.memo.now) c.args.pending.now.items c.requires some in
-      rw (w.written-is, w.output-is) (on_ok_weaker w.write_run_bytes-written.result (subst (Appends (g.W.Write.contents c.args.output.now) (g.W.Write.contents w.write_run_bytes-written.new.output)) text) w.write_run_bytes-written.ensures.ok)
-  | else-starts_run w ↦
-      let none : starts_run c.args.pending.now.items ≡ false = ap starts_run (sym c.as_slice.ensures.value) ∙ sym c.starts_run.ensures ∙ w.if-starts_run.false in
-      let text : w.as_slice-else-starts_run.result.now ≡ filtered_in c.args.memo.now c.args.pending.now.items =
-      w.as_slice-else-starts_run.ensures.value ∙ finished_kept (replacement_in c.args.memo.now) c.args.pending.now.items c.requires none in
-      rw (w.written-is, w.output-is) (on_ok_weaker w.write_unchanged-written.result (subst (Appends (g.W.Write.contents c.args.output.now) (g.W.Write.contents w.write_unchanged-written.new.output)) text) w.write_unchanged-written.ensures.ok)
-]
+returns-clause-ok g c =
+    let before = c.args.pending.now.before in
+    let items = c.args.pending.now.bytes.items in
+    let memo = c.args.memo.now in
+    let same : c.as_slice-text.result.now ≡ items = c.as_slice-text.ensures.value in
+    elim c.if-starts_candidate.branch [
+      | then-starts_candidate w ↦
+          let some : starts_candidate before items ≡ true = ap (starts_candidate before) (sym same) ∙ sym c.starts_candidate.ensures ∙ w.if-starts_candidate.true in
+          let text : replacement_after memo before c.as_slice-text.result.now ≡ rewritten_after memo before items =
+          ap (replacement_after memo before) same ∙ finished_candidate (replacement_after memo) (unwritten before items) c.requires some in
+          rw (w.written-is, w.output-is) (on_ok_weaker w.write_candidate-written.result (subst (Appends (g.W.Write.contents c.args.output.now) (g.W.Write.contents w.write_candidate-written.new.output)) text) w.write_candidate-written.ensures.ok)
+      | else-starts_candidate w ↦
+          let none : starts_candidate before items ≡ false = ap (starts_candidate before) (sym same) ∙ sym c.starts_candidate.ensures ∙ w.if-starts_candidate.false in
+          let text : c.as_slice-text.result.now ≡ rewritten_after memo before items = same ∙ finished_kept (replacement_after memo) (unwritten before items) c.requires none in
+          rw (w.written-is, w.output-is) (on_ok_weaker w.write_unchanged-written.result (subst (Appends (g.W.Write.contents c.args.output.now) (g.W.Write.contents w.write_unchanged-written.new.output)) text) w.write_unchanged-written.ensures.ok)
+    ]

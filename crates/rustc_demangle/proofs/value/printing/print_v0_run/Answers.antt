@@ -1,25 +1,28 @@
 use Rattle.std.specs.Prelude.{IsAscii}
 use Rattle.std.specs.List.{concat}
-use Rattle.std.proofs.Common.{◌≡◌, ℕ, true, false, List, [], ◌∷◌, ◌++◌, Result, Ok, Err, is_ok, OnOk, Some, refl, sym, subst, ap, ◌∙◌, inr, rules}
+use Rattle.std.proofs.Common.{◌≡◌, ◌≤◌, ℕ, true, List, [], ◌∷◌, ◌++◌, Result, Ok, Err, is_ok, OnOk, Some, length, arith, refl, sym, subst, ap, ◌∙◌, inr, rules}
 use Rattle.std.proofs.lemmas.Bool.{false≢true}
 use Rattle.demangle_v0_grammar.specs.Reading.{path_texts}
 use Rattle.demangle_v0_grammar.specs.V0.{v0_of}
 use Rattle.demangle_v0_grammar.proofs.V0Reading.{read_is_v0}
-use Rattle.demangle_sink.specs.Cut.{cut}
+use Rattle.demangle_sink.specs.Cut.{cut, size}
 use Rattle.demangle_sink.specs.declared.SinkRefused.{SinkRefused}
 use Rattle.demangle_sink.proofs.PutsPiecesLemmas.{puts_then, puts_text}
-use Rattle.demangle_sink.proofs.PrintsLemmas.{prints_cut_all}
+use Rattle.demangle_sink.proofs.PrintsLemmas.{cut-within, prints_cut_all}
 use Rattle.rustc_demangle.specs.Filtered.{replacement_in}
 use Rattle.rustc_demangle.specs.Stripped.{is_allowed, stripped}
 use Rattle.rustc_demangle.specs.Symbols.{IsSymbol, form_of}
 use Rattle.rustc_demangle.specs.declared.format.Format.{Format}
-use Rattle.rustc_demangle.proofs.ByteStreamLemmas.{all_ascii}
+use Rattle.rustc_demangle.proofs.RunStarts.{all_ascii}
 use Rattle.rustc_demangle.proofs.MemoLemmas.{symbol_replaced}
 use Rattle.rustc_demangle.proofs.PrintingLaws.{handed-some_of}
-use Rattle.rustc_demangle.proofs.Stripping.{IsAscii-stripped}
+use Rattle.rustc_demangle.proofs.Stripping.{IsAscii-stripped, stripped-shorter}
 use Rattle.rustc_demangle.proofs.SymbolLemmas.{pieces-v0}
 use Rattle.rustc_demangle.proofs.value.printing.print_v0_run.Goals as goal
-use Rattle.rustc_demangle.proofs.value.printing.print_v0_run.Goals.{then-is_allowed, else-is_allowed}
+
+-- pieces within the lower limit are cut at neither
+same_cut : (xs : List (List ℕ)) (most limit : ℕ) → size xs ≤ most → most ≤ limit → cut xs most ≡ cut xs limit
+same_cut xs most limit within lower = cut-within xs most within ∙ sym (cut-within xs limit (omega (arith, within, lower)))
 
 -- the text that a v0 symbol prints replaces its run
 v0_replaced : (run text inner suffix : List ℕ) (format : Format) → text ≡ stripped run → v0_of text ≡ Some (inner, suffix) → is_allowed suffix ≡ true
@@ -36,20 +39,32 @@ when_ok : {P : Type 0} (r : Result (Unit {0}) SinkRefused) → is_ok r ≡ true 
 when_ok (Ok u) e p = p
 when_ok (Err f) e p = absurd (false≢true e)
 
-pub returns : goal.returns
-returns g c = elim c.if-is_allowed.branch [
-  | then-is_allowed w ↦ λ is.
-      let laws = g.met.S.TextSink in
-      let printed = c.demangle_printed-read.new.out in
-      let suffix = c.in-Some.suffix.now in
-      let put = w.put_piece.result in
-      let prints = c.in-Some.ensures.prints in
-      let both =
-      puts_then g.S.TextSink c.args.out.now _ w.put_piece.new.out _ (suffix ∷ []) (Ok tt) put
-      (prints_cut_all g.S.TextSink c.new-limited.result printed _ _ _ _ (Ok tt) c.new-limited.ensures.text c.new-limited.ensures.left prints (prints.open_ refl) (search rules))
-      refl w.put_piece.ensures in
-      let took = puts_text g.S.TextSink c.args.out.now w.put_piece.new.out _ put laws.took_nothing laws.took_joined both in
-      let text = v0_replaced c.args.run.now c.without_thin_lto-text.result.now c.in-Some.field-0-0 suffix c.args.format c.without_thin_lto-text.ensures c.in-Some.ensures.some (sym w.if-is_allowed.ensures.allowed) in
-      rw w.out-is (subst (λ t. g.S.TextSink.took c.args.out.now t w.put_piece.new.out) text (when_ok put (sym w.is_ok.ensures.value ∙ (sym w.result-is ∙ is)) took))
-  | else-is_allowed w ↦ λ is. absurd (false≢true (sym w.if-is_allowed.false ∙ (sym w.result-is ∙ is)))
-]
+pub returns-then-is_allowed-clause-took : goal.returns-then-is_allowed-clause-took
+returns-then-is_allowed-clause-took g c = λ is.
+    let laws = g.met.S.TextSink in
+    let printed = c.demangle_printed-read.new.out in
+    let suffix = c.in-Some.suffix.now in
+    let put = c.put_piece.result in
+    let prints = rw c.form.ensures at c.in-Some.ensures.prints in
+    let both =
+    puts_then g.S.TextSink c.args.out.now _ c.put_piece.new.out _ (suffix ∷ []) (Ok tt) put
+    (prints_cut_all g.S.TextSink c.new-limited.result printed _ _ _ _ (Ok tt) c.new-limited.ensures.text c.new-limited.ensures.left prints (prints.open_ refl) (search rules))
+    refl c.put_piece.ensures in
+    let took = puts_text g.S.TextSink c.args.out.now c.put_piece.new.out _ put laws.took_nothing laws.took_joined both in
+    let within : size (path_texts c.in-Some.field-0-0 (form_of c.args.format)) ≤ c.args.limit = omega (arith, prints.within refl, c.new-limited.ensures.left) in
+    let limited = same_cut (path_texts c.in-Some.field-0-0 (form_of c.args.format)) c.args.limit c.args.format.limit within c.requires.lower in
+    let whole = v0_replaced c.args.run.now c.without_thin_lto-text.result.now c.in-Some.field-0-0 suffix c.args.format c.without_thin_lto-text.ensures c.in-Some.ensures.some (sym c.if-is_allowed.ensures.allowed) in
+    let text = ap (λ (pieces : List (List ℕ)). concat (pieces ++ suffix ∷ [])) limited ∙ whole in
+    subst (λ t. g.S.TextSink.took c.args.out.now t c.put_piece.new.out) text (when_ok put (sym c.is_ok.ensures.value ∙ is) took)
+
+pub returns-in_default-clause-most : goal.returns-in_default-clause-most
+returns-in_default-clause-most g c =
+    omega (arith, c.in_default.ensures.most, ap length c.without_thin_lto-text.ensures, stripped-shorter c.args.run.now)
+
+pub returns-then-is_allowed-clause-most : goal.returns-then-is_allowed-clause-most
+returns-then-is_allowed-clause-most g c =
+    omega (arith, c.in-Some.ensures.most, c.in-Some.ensures.suffix, c.is_allowed.ensures.most, ap length c.without_thin_lto-text.ensures, stripped-shorter c.args.run.now)
+
+pub returns-else-is_allowed-clause-most : goal.returns-else-is_allowed-clause-most
+returns-else-is_allowed-clause-most g c =
+    omega (arith, c.in-Some.ensures.most, c.in-Some.ensures.suffix, c.is_allowed.ensures.most, ap length c.without_thin_lto-text.ensures, stripped-shorter c.args.run.now)

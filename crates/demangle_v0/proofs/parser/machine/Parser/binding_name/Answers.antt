@@ -5,44 +5,46 @@ use Rattle.demangle_v0_tokens.specs.declared.token.TokenKind.TheVariants as toke
 use Rattle.demangle_v0.proofs.StepErrors.{stops}
 use Rattle.demangle_v0.proofs.DynTraitSteps.{after_name}
 use Rattle.demangle_v0.proofs.StepCases.{token_continues, token_refuses, word_stops}
+use Rattle.demangle_v0.proofs.Pace.{token_paced}
 use Rattle.demangle_v0.proofs.parser.machine.Parser.binding_name.Goals as goal
 
-pub returns-in_err-emit-in-Parsed : goal.returns-in_err-emit-in-Parsed
+pub returns-in_err-emit-in-Parsed-clause-performs : goal.returns-in_err-emit-in-Parsed-clause-performs
 unfolding trace_at
-returns-in_err-emit-in-Parsed g c = let e = c.in_err-emit-in-Parsed.ensures in record {
-  performs = rw (e.parser, c.token_at.ensures.parser, stops c.from_residual.result c.from_residual.ensures.1 refl) (record {
-    does = token_refuses (omega arith) token_kind.BindingName after_name _ _ c.in-Parsed.ensures.value
-        (record {
-          grows = omega (arith, c.in-Parsed.ensures.grows, e.grows);
-          within = omega (arith, c.in-Parsed.ensures.looks, e.most);
-        })
-        (rw c.token_at.ensures.parser at e.prints) e.no_output;
-    same = (refl, refl, refl);
-  });
-}
+returns-in_err-emit-in-Parsed-clause-performs g c = let e = c.in_err-emit-in-Parsed.ensures in rw (e.parser, c.token_at.ensures.parser, stops c.from_residual.result c.from_residual.ensures.1 refl) (record {
+  does = token_refuses (omega arith) token_kind.BindingName after_name _ _ c.in-Parsed.ensures.value
+      (record {
+        grows = omega (arith, c.in-Parsed.ensures.grows, e.grows);
+        within = omega (arith, c.in-Parsed.ensures.looks, e.most);
+      })
+      (rw c.token_at.ensures.parser at e.prints) e.no_output;
+  same = (refl, refl, refl);
+})
 
-pub returns-in_ok-emit-in-Parsed : goal.returns-in_ok-emit-in-Parsed
+pub returns-in_ok-emit-in-Parsed-clause-performs : goal.returns-in_ok-emit-in-Parsed-clause-performs
 unfolding trace_at
-returns-in_ok-emit-in-Parsed g c = let e = c.in_ok-emit-in-Parsed.ensures in record {
-  performs = rw (e.parser, c.token_at.ensures.parser) (record {
-    does = token_continues (omega arith) continuation.BindingValue token_kind.BindingName after_name _ _ c.in-Parsed.ensures.value
-        (record {
-          grows = omega (arith, c.in-Parsed.ensures.grows, e.grows);
-          within = omega (arith, c.in-Parsed.ensures.looks, e.most);
-        })
-        (rw c.token_at.ensures.parser at e.prints) e.ready c.requires.can_step.no_pending_text refl (omega arith) (omega arith)
-        c.requires.can_step.fits;
-    same = (refl, refl, refl);
-  });
-}
+returns-in_ok-emit-in-Parsed-clause-performs g c = let e = c.in_ok-emit-in-Parsed.ensures in rw (e.parser, c.token_at.ensures.parser) (record {
+  does = token_continues (omega arith) continuation.BindingValue token_kind.BindingName after_name _ _ c.in-Parsed.ensures.value
+      (record {
+        grows = omega (arith, c.in-Parsed.ensures.grows, e.grows);
+        within = omega (arith, c.in-Parsed.ensures.looks, e.most);
+      })
+      (rw c.token_at.ensures.parser at e.prints) e.ready c.requires.can_step.no_pending_text refl (omega arith) (omega arith)
+      c.requires.can_step.fits;
+  same = (refl, refl, refl);
+})
 
-pub returns-in-NotParsed : goal.returns-in-NotParsed
+pub returns-in-NotParsed-clause-performs : goal.returns-in-NotParsed-clause-performs
 unfolding trace_at
-returns-in-NotParsed g c = record {
-  performs = rw c.token_at.ensures.parser (record {
-    does = word_stops (omega arith) token_kind.BindingName after_name _ c.in-NotParsed.ensures.value
-        (record { grows = c.in-NotParsed.ensures.grows; within = omega (arith, c.in-NotParsed.ensures.looks) })
-        c.requires.can_step.no_pending_text (omega arith);
-    same = (refl, refl, refl);
-  });
-}
+returns-in-NotParsed-clause-performs g c = rw c.token_at.ensures.parser (record {
+  does = word_stops (omega arith) token_kind.BindingName after_name _ c.in-NotParsed.ensures.value
+      (record { grows = c.in-NotParsed.ensures.grows; within = omega (arith, c.in-NotParsed.ensures.looks) })
+      c.requires.can_step.no_pending_text (omega arith);
+  same = (refl, refl, refl);
+})
+
+pub returns-in_ok-emit-in-Parsed-clause-paced : goal.returns-in_ok-emit-in-Parsed-clause-paced
+returns-in_ok-emit-in-Parsed-clause-paced g c =
+    let m = c.args.self.now in
+    let e = c.in_ok-emit-in-Parsed.ensures in
+    let pace = token_paced m.source.symbol.now token_kind.BindingName m.state.letter g.V.Output.is_printed m.state.lifetimes m.state.place c.in-Parsed.name c.in-Parsed.next c.in-Parsed.ensures.value in
+    rw (e.parser, c.token_at.ensures.parser) (λ _ _. omega (arith, c.in-Parsed.ensures.looks, e.most, pace))

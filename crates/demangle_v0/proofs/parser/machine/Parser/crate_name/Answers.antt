@@ -43,7 +43,7 @@ returns-in_err-emit-clause-performs g c =
     let at = c.in_ok-at.at in
     let e = c.in_err-emit.ensures in
     let name = named.some CrateName in
-    let same = crate_texts_same b c.args.self.now.source.include_hash c.in_ok-name.name name.0
+    let same = crate_texts_same b c.args.self.now.source.form c.in_ok-name.name name.0
     c.in_ok-name.number name.1 in
     rw e.parser (record {
       does = rw (stops c.from_residual-in_err-emit.result c.from_residual-in_err-emit.ensures.1 refl)
@@ -64,7 +64,7 @@ returns-clause-performs g c =
     let at = c.in_ok-at.at in
     let e = c.in_ok-emit.ensures in
     let name = named.some CrateName in
-    let same = crate_texts_same b c.args.self.now.source.include_hash c.in_ok-name.name name.0
+    let same = crate_texts_same b c.args.self.now.source.form c.in_ok-name.name name.0
     c.in_ok-name.number name.1 in
     rw e.parser (record {
       does = group_tells continuation.End (crate_group b at) (omega (arith, named_few b at CrateName)) ended _ _

@@ -9,7 +9,7 @@ use Rattle.demangle_v0.proofs.NestedNames.{alone}
 use Rattle.demangle_v0.proofs.parser.machine.Parser.dispatch.Goals as goal
 
 pub returns-in-Path-clause-performs : goal.returns-in-Path-clause-performs
-returns-in-Path-clause-performs g c = rw c.in-Path.is (c.path.ensures.performs, c.path.ensures.single, c.path.ensures.same, c.path.ensures.grows)
+returns-in-Path-clause-performs g c = rw c.in-Path.is (c.path.ensures.performs, c.path.ensures.single, c.path.ensures.same, c.path.ensures.grows, c.path.ensures.own_looks)
 
 pub returns-in-Lifetime-clause-performs : goal.returns-in-Lifetime-clause-performs
 returns-in-Lifetime-clause-performs g c = alone (rw c.in-Lifetime.is c.out_of_line.ensures.performs)

@@ -5,11 +5,9 @@ use Rattle.demangle_v0.specs.declared.parser.Continuation.TheVariants as continu
 use Rattle.demangle_v0.proofs.StepCases.{marks}
 use Rattle.demangle_v0.proofs.parser.machine.Parser.folded_trait_arguments.Goals as goal
 
-pub returns : goal.returns
+pub returns-clause-performs : goal.returns-clause-performs
 unfolding parse trace_at
-returns g c = record {
-  performs = λ p. rw c.put.ensures (record {
-    does = marks continuation.End refl (omega arith) (omega arith) tt;
-    same = (refl, refl, refl);
-  });
-}
+returns-clause-performs c = λ p. rw c.put.ensures (record {
+  does = marks continuation.End refl (omega arith) (omega arith) tt;
+  same = (refl, refl, refl);
+})

@@ -5,22 +5,18 @@ use Rattle.demangle_v0.specs.declared.parser.Continuation.TheVariants as continu
 use Rattle.demangle_v0.proofs.StepCases.{marks}
 use Rattle.demangle_v0.proofs.parser.machine.Parser.generic.Goals as goal
 
-pub returns-then-self : goal.returns-then-self
+pub returns-then-self-clause-performs : goal.returns-then-self-clause-performs
 unfolding parse trace_at
-returns-then-self g c = record {
-  performs = λ p. rw c.put.ensures (record {
-    does = marks continuation.OpenArguments
-        (rw c.if-self.true refl) (omega arith) (omega arith) c.requires.can_step.fits;
-    same = (refl, refl, refl);
-  });
-}
+returns-then-self-clause-performs c = λ p. rw c.put.ensures (record {
+  does = marks continuation.OpenArguments
+      (rw c.if-self.true refl) (omega arith) (omega arith) c.requires.can_step.fits;
+  same = (refl, refl, refl);
+})
 
-pub returns : goal.returns
+pub returns-clause-performs : goal.returns-clause-performs
 unfolding parse trace_at
-returns g c = record {
-  performs = λ p. rw c.put-2.ensures (record {
-    does = marks continuation.FirstArgument (rw c.if-self.false
-        refl) (omega arith) (omega arith) c.requires.can_step.fits;
-    same = (refl, refl, refl);
-  });
-}
+returns-clause-performs c = λ p. rw c.put-2.ensures (record {
+  does = marks continuation.FirstArgument (rw c.if-self.false
+      refl) (omega arith) (omega arith) c.requires.can_step.fits;
+  same = (refl, refl, refl);
+})

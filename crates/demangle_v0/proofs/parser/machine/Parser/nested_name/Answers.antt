@@ -40,7 +40,7 @@ returns-in_err-emit-clause-performs g c =
     let s = c.args.self.now.state in
     let e = c.in_err-emit.ensures in
     let name = named.some (λ a d. NestedName s.letter d a) in
-    let same = nested_texts_same b c.args.self.now.source.include_hash s.letter c.in_ok-ident.ident name.0
+    let same = nested_texts_same b c.args.self.now.source.form s.letter c.in_ok-ident.ident name.0
     c.in_ok-ident.number (λ special. name.1 (c.is_special-is_special.ensures ∙ special)) in
     rw e.parser (record {
       does = rw (stops c.from_residual-in_err-emit.result c.from_residual-in_err-emit.ensures.1 refl)
@@ -69,7 +69,7 @@ returns-clause-performs g c =
     let s = c.args.self.now.state in
     let e = c.in_ok-emit.ensures in
     let name = named.some (λ a d. NestedName s.letter d a) in
-    let same = nested_texts_same b c.args.self.now.source.include_hash s.letter c.in_ok-ident.ident name.0
+    let same = nested_texts_same b c.args.self.now.source.form s.letter c.in_ok-ident.ident name.0
     c.in_ok-ident.number (λ special. name.1 (c.is_special-is_special.ensures ∙ special)) in
     rw e.parser (record {
       does = group_tells continuation.End (nested_group b s.letter at) (omega (

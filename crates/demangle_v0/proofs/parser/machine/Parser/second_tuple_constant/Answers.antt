@@ -6,22 +6,18 @@ use Rattle.demangle_v0.proofs.ConstantListSteps.{constants}
 use Rattle.demangle_v0.proofs.ListSteps.{second_closes, second_continues}
 use Rattle.demangle_v0.proofs.parser.machine.Parser.second_tuple_constant.Goals as goal
 
-pub returns-then-ends_list : goal.returns-then-ends_list
+pub returns-then-ends_list-clause-performs : goal.returns-then-ends_list-clause-performs
 unfolding trace_at
-returns-then-ends_list g c = record {
-  performs = λ p. rw (c.put.ensures, c.ends_list.ensures.place) (record {
-    does = second_closes constant_inside refl (sym c.ends_list.ensures.over ∙ c.if-ends_list.true) refl
-        c.ends_list.ensures.within_budget (omega arith) (omega arith) c.requires.can_step.fits;
-    same = (refl, refl, refl);
-  });
-}
+returns-then-ends_list-clause-performs c = λ p. rw (c.put.ensures, c.ends_list.ensures.place) (record {
+  does = second_closes constant_inside refl (sym c.ends_list.ensures.over ∙ c.if-ends_list.true) refl
+      c.ends_list.ensures.within_budget (omega arith) (omega arith) c.requires.can_step.fits;
+  same = (refl, refl, refl);
+})
 
-pub returns : goal.returns
+pub returns-clause-performs : goal.returns-clause-performs
 unfolding trace_at
-returns g c = record {
-  performs = λ p. rw (c.put-2.ensures, c.push.ensures, c.ends_list.ensures.place) (record {
-    does = second_continues (constants _ false list.Tuple) refl (sym c.ends_list.ensures.over ∙ c.if-ends_list.false) refl
-        c.ends_list.ensures.within_budget (omega arith) c.requires.can_step.fits refl;
-    same = (refl, refl, refl);
-  });
-}
+returns-clause-performs c = λ p. rw (c.put-2.ensures, c.push.ensures, c.ends_list.ensures.place) (record {
+  does = second_continues (constants _ false list.Tuple) refl (sym c.ends_list.ensures.over ∙ c.if-ends_list.false) refl
+      c.ends_list.ensures.within_budget (omega arith) c.requires.can_step.fits refl;
+  same = (refl, refl, refl);
+})

@@ -5,7 +5,7 @@ use Rattle.demangle_v0.proofs.parser.machine.Parser.steps.Goals as goal
 pub flush_pending_text-requires : goal.flush_pending_text-requires
 flush_pending_text-requires g c =
     let d = c.in-Ok.ensures.performs.0 in
-    (omega arith, (λ z. rw c.in-Ok.ensures.performs.2.0 (c.requires.can_step.ascii z), d.does.ready (d.runs.ready c.requires.can_step.ready) refl))
+    record { ascii = λ z. rw c.in-Ok.ensures.performs.2.0 (c.requires.can_step.ascii z); ready = d.does.ready (d.runs.ready c.requires.can_step.ready) refl }
 
 pub emit_error-requires-clause-ready : goal.emit_error-requires-clause-ready
 emit_error-requires-clause-ready g c =

@@ -5,6 +5,6 @@ use Rattle.demangle_v0.specs.declared.parser.Continuation.TheVariants as continu
 use Rattle.demangle_v0.proofs.StepCases.{marks}
 use Rattle.demangle_v0.proofs.parser.machine.Parser.tuple_type.Goals as goal
 
-pub returns : goal.returns
+pub returns-clause-performs : goal.returns-clause-performs
 unfolding parse trace_at
-returns g c = record { performs = λ p. rw c.put.ensures (record { does = marks continuation.FirstTupleType refl (omega arith) (omega arith) (omega (arith, c.requires.can_step.fits)); same = (refl, refl, refl) }) }
+returns-clause-performs c = λ p. rw c.put.ensures (record { does = marks continuation.FirstTupleType refl (omega arith) (omega arith) (omega (arith, c.requires.can_step.fits)); same = (refl, refl, refl) })

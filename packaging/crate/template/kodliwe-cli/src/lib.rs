@@ -1,0 +1,21 @@
+//! The programs `kodliwe` and `demangle_filter`.
+//!
+//! The package's two binaries call this library, which has no interface for other packages. The
+//! library `kodliwe` demangles.
+#![warn(missing_docs)]
+#![deny(unsafe_code)]
+
+use std::process::ExitCode;
+
+// MODULES
+mod support;
+
+/// Runs the program `kodliwe`, and returns its exit status.
+pub fn run_kodliwe() -> ExitCode {
+    self::kodliwe::main()
+}
+
+/// Runs the program `demangle_filter`, and returns its exit status.
+pub fn run_demangle_filter() -> ExitCode {
+    demangle_filter::main()
+}

@@ -1,0 +1,4 @@
+//! The text of `kodliwe_version`.
+
+/// The name and the version of the library, and that it is not proved.
+pub const VERSION: &str = "kodliwe 0.1.0, tested, not proved";

@@ -1,0 +1,100 @@
+// Made from crates/demangle_c_string/src/lib.rt by packaging/crate/erase.py: edit that file instead.
+//! Writes the path of a symbol as a C string to the caller's memory. The calls for C and those for
+//! web pages share this code.
+
+use core::str;
+use kodliwe::internal::rustc_demangle::sink::SliceSink;
+use kodliwe::internal::rustc_demangle::{Demangle, Format, demangle_slice_formatted, try_demangle};
+
+/// The most bytes that are printed for a symbol, without the marker and the suffix.
+pub const MAX_SIZE: usize = 1_000_000;
+
+/// Returns the bytes as text, or `None` if they are not UTF-8. In that case they are not a symbol.
+pub fn text_of(bytes: &[u8]) -> Option<&str> {
+    let Ok(text) = str::from_utf8(bytes) else {
+        return None;
+    };
+    Some(text)
+}
+
+/// Returns the symbol that the bytes are, after a suffix of ThinLTO is removed, or `None` if they
+/// are not a symbol. A symbol may be legacy or v0 (Rust RFC 2603).
+pub fn symbol_of(bytes: &[u8]) -> Option<Demangle<'_>> {
+    try_demangle(text_of(bytes)?).ok()
+}
+
+/// Writes a path from its byte `start` to memory, as far as the memory reaches. Returns the number
+/// of bytes of the whole path.
+fn write_path(symbol: &Demangle<'_>, out: &mut [u8], format: Format, start: usize) -> usize {
+    let mut sink = SliceSink::starting_at(out, start);
+    match symbol.write_formatted(&mut sink, format) {
+        Ok(()) => sink.len(),
+        Err(_) => unreachable!(),
+    }
+}
+
+/// Writes a 0 after a text of this length at the start of the memory, or to the last byte if the
+/// text fills the memory. Memory of size 0 stays unchanged.
+pub fn put_nul(out: &mut [u8], len: usize) {
+    if !out.is_empty() {
+        let end = len.min(out.len() - 1);
+        out[end] = 0;
+    }
+}
+
+/// Writes the path of a Rust symbol to memory, from the path's byte `start`, with a 0 after it.
+/// Returns the number of bytes of the whole path and a 0.
+///
+/// The path is cut at `limit` bytes, and at `MAX_SIZE` at most. `{size limit reached}` and the
+/// symbol's suffix follow a cut path. If the bytes are not a symbol, the call returns 0 and leaves
+/// the memory unchanged. Otherwise the memory receives as much of the path from `start` as fits
+/// before a 0, and no byte after the 0 is changed. The call does not allocate.
+pub fn write_part(
+    symbol: &[u8],
+    out: &mut [u8],
+    include_hash: bool,
+    limit: usize,
+    start: usize,
+) -> usize {
+    let format = Format::unfolded(include_hash, limit);
+    write_part_formatted(symbol, out, format, start)
+}
+
+/// Writes a path as `write_part` does, in a format, and returns the same number. A limit of the
+/// format above `MAX_SIZE` counts as `MAX_SIZE`.
+pub fn write_part_formatted(symbol: &[u8], out: &mut [u8], format: Format, start: usize) -> usize {
+    let Some(demangled) = symbol_of(symbol) else {
+        return 0;
+    };
+    let most = format.limit.min(MAX_SIZE);
+    let capped = Format {
+        limit: most,
+        ..format
+    };
+    let len = write_path(&demangled, out, capped, start);
+    put_nul(out, len.saturating_sub(start));
+    len + 1
+}
+
+/// Writes bytes to memory with each Rust symbol replaced by its path, and a 0 after them. Returns
+/// the number of bytes of that text and the 0.
+///
+/// Each path is cut as by `write_part`. The result does not depend on the size of the memory. The
+/// memory receives as much of the text as fits before a 0, and no byte after the 0 is changed. The
+/// result is `usize::MAX` if the number is not smaller than that. The contents of the memory are
+/// then unspecified. The call does not allocate.
+pub fn write_text(text: &[u8], out: &mut [u8], include_hash: bool, limit: usize) -> usize {
+    let format = Format::unfolded(include_hash, limit);
+    write_text_formatted(text, out, format)
+}
+
+/// Writes a text as `write_text` does, with each symbol printed in a format, and returns the same
+/// number. A limit of the format above `MAX_SIZE` counts as `MAX_SIZE`.
+pub fn write_text_formatted(text: &[u8], out: &mut [u8], format: Format) -> usize {
+    let limit = format.limit.min(MAX_SIZE);
+    let Some(len) = demangle_slice_formatted(text, out, Format { limit, ..format }) else {
+        return usize::MAX;
+    };
+    put_nul(out, len);
+    len.saturating_add(1)
+}

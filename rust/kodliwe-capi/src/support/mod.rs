@@ -1,0 +1,2 @@
+//! What the functions that C calls need.
+pub mod memory;

@@ -1,0 +1,70 @@
+// Made from crates/rustc_demangle/src/byte_before.rt by packaging/crate/erase.py: edit that file instead.
+//! What is before a text, and which part of it a run takes in.
+
+use crate::rustc_demangle::runs::is_run_byte;
+#[cfg(feature = "stream")]
+use crate::rustc_demangle::runs::starts_run;
+
+/// What is before a text.
+#[derive(Clone, Copy)]
+pub enum ByteBefore {
+    /// Nothing, or a byte that is not a run byte. A run takes in a single `_` after it.
+    Outside,
+    /// An ASCII letter or digit. A run directly after it is not replaced.
+    Alphanumeric,
+    /// `_`, `.` or `$`.
+    Mark,
+}
+
+impl ByteBefore {
+    /// Returns what a byte is for the text after it.
+    fn of(byte: u8) -> Self {
+        if byte.is_ascii_alphanumeric() {
+            ByteBefore::Alphanumeric
+        } else if is_run_byte(byte) {
+            ByteBefore::Mark
+        } else {
+            ByteBefore::Outside
+        }
+    }
+
+    /// Returns what is before the text that follows these bytes.
+    pub(crate) fn after(self, text: &[u8]) -> Self {
+        if text.is_empty() {
+            self
+        } else {
+            ByteBefore::of(text[text.len() - 1])
+        }
+    }
+
+    /// Returns whether this is a letter or digit.
+    pub(crate) fn is_alphanumeric(self) -> bool {
+        matches!(self, ByteBefore::Alphanumeric)
+    }
+
+    /// Returns whether this is outside of runs.
+    pub(crate) fn is_outside(self) -> bool {
+        matches!(self, ByteBefore::Outside)
+    }
+
+    /// Returns whether a candidate starts here: a run, or a run with the `_` that it takes in.
+    #[cfg(feature = "stream")]
+    pub(crate) fn starts_candidate(self, text: &[u8]) -> bool {
+        starts_run(text)
+            || (self.is_outside() && !text.is_empty() && text[0] == b'_' && starts_run(&text[1..]))
+    }
+
+    /// Returns the length of plain text before a run, without the `_` at its end that the run takes
+    /// in.
+    pub(crate) fn plain_len(self, text: &[u8]) -> usize {
+        if text.is_empty() || text[text.len() - 1] != b'_' {
+            return text.len();
+        }
+        let front = text.len() - 1;
+        if self.after(&text[..front]).is_outside() {
+            front
+        } else {
+            text.len()
+        }
+    }
+}

@@ -1,0 +1,84 @@
+// Made from crates/rustc_demangle/src/coalescing.rt by packaging/crate/erase.py: edit that file instead.
+//! A sink that passes pieces on together.
+
+use crate::demangle_sink::{SinkRefused, TextSink};
+use crate::rustc_demangle::value::Demangle;
+use crate::support::arrayvec::ArrayString;
+
+/// The most bytes that are held.
+const MOST_HELD: usize = 256;
+
+/// Holds pieces, and passes them to a sink together.
+///
+/// The sink gets the held text before a piece that does not fit after it, and by `flush`. A piece of
+/// more than `MOST_HELD` bytes is passed on alone. So what the sink got is always a prefix of the
+/// text that ends between two pieces, and after `flush` it is all of it.
+pub(crate) struct CoalescingSink<'s, S: TextSink> {
+    out: &'s mut S,
+    held: ArrayString<MOST_HELD>,
+}
+
+impl<'s, S: TextSink> CoalescingSink<'s, S> {
+    /// Returns a sink that passes pieces to this one. It holds nothing.
+    pub(crate) fn new(out: &'s mut S) -> Self {
+        CoalescingSink {
+            out,
+            held: ArrayString::new(),
+        }
+    }
+
+    /// Passes on the held text, if there is any.
+    ///
+    /// # Errors
+    ///
+    /// Returns `SinkRefused` if the sink rejects it.
+    pub(crate) fn flush(&mut self) -> Result<(), SinkRefused> {
+        if self.held.is_empty() {
+            return Ok(());
+        }
+        self.out.put(self.held.as_str())?;
+        self.held.clear();
+        Ok(())
+    }
+
+    /// Takes a piece for which there is no room after the held text.
+    #[inline(never)]
+    fn put_after_flush(&mut self, s: &str) -> Result<(), SinkRefused> {
+        self.flush()?;
+        if s.len() > MOST_HELD {
+            self.out.put(s)?;
+        } else {
+            self.held.push_str(s);
+        }
+        Ok(())
+    }
+}
+
+impl<'s, S: TextSink> TextSink for CoalescingSink<'s, S> {
+    fn put(&mut self, s: &str) -> Result<(), SinkRefused> {
+        if s.len() > self.held.remaining_capacity() {
+            return self.put_after_flush(s);
+        }
+        self.held.push_str(s);
+        Ok(())
+    }
+
+    fn is_failed(&self) -> bool {
+        self.out.is_failed()
+    }
+}
+
+/// Prints a symbol into a sink, as `Demangle::write_to` does, and passes its pieces on together.
+///
+/// # Errors
+///
+/// Returns `SinkRefused` if the sink rejects a text. It then got a prefix of the pieces' text.
+pub(crate) fn write_coalesced<S: TextSink>(
+    symbol: &Demangle<'_>,
+    out: &mut S,
+    include_hash: bool,
+) -> Result<(), SinkRefused> {
+    let mut pieces = CoalescingSink::new(out);
+    symbol.write_to(&mut pieces, include_hash)?;
+    pieces.flush()
+}

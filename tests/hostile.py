@@ -1,0 +1,268 @@
+#!/usr/bin/env python3
+"""Counts what texts that are made to be costly cost, call by call, and compares it with the published crate.
+
+usage: hostile.py [--rust FOLDER] [--programs NAMES] [--archive FILE] [STEP..]
+
+It counts instructions by valgrind, so a busy machine does not matter. The texts are those of tests/hostile_texts.py: families that grow
+with a number, symbols whose cost only a limit of work could bound, and symbols by the grammar. The calls are these:
+
+  rust     try_demangle, Display, demangle_text, demangle_slice and BytesFilter, plain and folded, of the Rust crate
+  c        the six calls of the archive that read a symbol or a text
+  program  kodliwe, plain and with --fold, over its standard input, as `make` builds it (proved) and as cargo does
+  page     the module of the page, in node. There is no count of its instructions, so this is processor time, of a text and its double
+  memory   VmHWM of each kodliwe over all of the texts: at most 8 MB, and twice the longest candidate of a symbol
+
+A text fails for a call
+- if it takes over TIMES the instructions of the published crate, and over RATE for each byte of its input and output;
+- if it is of a family, and its double takes over GROWTH as much for each byte.
+The published crate has no streams in Debian's release. So its figure is try_demangle and `{}` for each candidate of the text.
+
+A text of UNBOUNDED has no such bounds. It may take a stated multiple of what the published crate takes for the same symbol.
+
+--rust and --archive name others than those of this checkout. --programs, or PROGRAMS in the environment, names some builds of the
+program, or other files: --programs proved,cargo=PATH. `make` builds the proved program and the archive.
+The last line is 'N passed, N failed'. A missing tool is a failure.
+"""
+import argparse
+import functools
+import glob
+import json
+import os
+import re
+import struct
+import subprocess
+import sys
+import tempfile
+import threading
+from concurrent import futures
+
+import hostile_texts
+import rust_common
+from common import ARCHIVE, INCLUDE, ROOT, RUST, Tally, built, instructions, run, tool
+
+DEBIAN = "/usr/share/cargo/registry"
+# The most instructions, in those of the published crate, or for each byte of the input and the output.
+TIMES, RATE = 3, 400
+# The most that a byte of a double costs, in that of a byte of its half.
+GROWTH = 1.3
+# The bytes of a text of a family. Its double is the second one.
+SIZE = 16_384
+# The symbols by the grammar, and how many of them are one text.
+MADE, TOGETHER = 600, 20
+# The call of the published crate that a call is compared with.
+ASKED = {"try_demangle", "kodliwe_is_symbol", "kodliwe_path_len"}
+CALLS = ["try_demangle", "Display", "demangle_text", "demangle_slice", "BytesFilter", "BytesFilter folded"]
+C_CALLS = [
+    "kodliwe_is_symbol",
+    "kodliwe_path_len",
+    "kodliwe_demangle",
+    "kodliwe_demangle_folded",
+    "kodliwe_demangle_text",
+    "kodliwe_demangle_text_folded",
+]
+# The most that a byte of a text of four times the size costs the page, in processor time.
+PAGE_GROWTH = 2.5
+# The most memory of the program, in kilobytes, without a run, and the bytes of the longest run.
+MEMORY, LONGEST = 8192, 4_000_000
+# How many measurements run at once.
+AT_ONCE = 4
+GIVEN = argparse.Namespace()
+
+
+class Text:
+    """A text with its bounds: the times of the published crate, and the index of the text of half its size."""
+
+    def __init__(self, name, text, times=None, half=None):
+        self.name, self.bytes, self.times, self.half = name, text.encode("ascii"), times, half
+
+
+def all_texts():
+    """Returns the texts, in the order in which they are measured."""
+    texts = []
+    for name, family in hostile_texts.FAMILIES.items():
+        texts.append(Text(name, family(SIZE)))
+        texts.append(Text(name + ", double", family(2 * SIZE), half=len(texts) - 1))
+    for name, (times, symbol) in hostile_texts.UNBOUNDED.items():
+        texts.append(Text(name, symbol() + "\n", times=times))
+    symbols = list(hostile_texts.made(MADE))
+    for at in range(0, MADE, TOGETHER):
+        texts.append(Text("symbols from %d on" % at, "\n".join(symbols[at : at + TOGETHER]) + "\n"))
+    return texts
+
+
+TEXTS = all_texts()
+# Those that the program reads.
+NAMED = [text for text in TEXTS if not text.name.startswith("symbols from")]
+
+
+def measured(program, call):
+    """Returns for each text the instructions of `measured` in a driver, and the bytes of the output."""
+    records = b"".join(struct.pack("<I", len(text.bytes)) + text.bytes for text in TEXTS)
+    with tempfile.TemporaryDirectory() as folder:
+        words = [tool("valgrind", "valgrind"), "--tool=callgrind", "--toggle-collect=measured", "--dump-after=measured"]
+        said = run([*words, "--callgrind-out-file=%s/out" % folder, program, call], input=records)
+        sizes = [int(line) for line in said.split()]
+        counts = [total_of("%s/out.%d" % (folder, number)) for number in range(1, len(TEXTS) + 1)]
+    assert len(sizes) == len(TEXTS) and all(counts), "%s: %d of %d texts" % (call, len(sizes), len(TEXTS))
+    return list(zip(counts, sizes))
+
+
+def total_of(path):
+    """Returns the instructions that a file of callgrind has."""
+    with open(path, encoding="utf-8") as file:
+        return int(re.search(r"^(?:summary|totals): (\d+)", file.read(), re.M)[1])
+
+
+def judged(call, ours, crates):
+    """Fails with each text that costs too much. Returns the greatest figures, which may be those of different texts."""
+    wrong, most_rate, most_times, most_growth = [], 0, 0, 0
+    rates = [count / (len(text.bytes) + size) for text, (count, size) in zip(TEXTS, ours)]
+    for at, (text, (count, _), (crate, _)) in enumerate(zip(TEXTS, ours, crates)):
+        times = count / crate
+        said = "%s: %.2f times the crate, %.0f a byte" % (text.name, times, rates[at])
+        if text.times:
+            wrong += [said + ", may be %g times" % text.times] * (times > text.times)
+            continue
+        wrong += [said] * (times > TIMES and rates[at] > RATE)
+        most_rate, most_times = max(most_rate, rates[at]), max(most_times, times)
+        if text.half is not None:
+            growth = rates[at] / rates[text.half]
+            most_growth = max(most_growth, growth)
+            wrong += ["%s: a byte of it costs %.2f times one of its half" % (text.name, growth)] * (growth > GROWTH)
+    assert not wrong, "%s, %d texts:\n  %s" % (call, len(wrong), "\n  ".join(wrong))
+    return "at most %.0f a byte, %.1f times the crate, and %.2f times the half" % (most_rate, most_times, most_growth)
+
+
+@functools.lru_cache(maxsize=None)
+def rust_driver():
+    """Builds the driver over both crates, and returns its path."""
+    published = max(glob.glob(os.path.join(DEBIAN, "rustc-demangle-[0-9]*")), default=None)
+    assert published, "no crate of the package librust-rustc-demangle-dev"
+    folder = rust_common.package(
+        "hostile",
+        '[[bin]]\nname = "hostile"\npath = "%s/hostile.rs"\n\n[dependencies]\nkodliwe = { path = "%s/kodliwe", features = ["stream"] }\n'
+        'theirs = { package = "rustc-demangle", path = "%s" }\n\n'
+        '[profile.release]\nopt-level = 3\nlto = "fat"\ncodegen-units = 1\n' % (rust_common.HERE, GIVEN.rust, published),
+    )
+    target = os.path.join(rust_common.OUT, "hostile-target")
+    rust_common.cargo(folder, "build", "--release", target=target)
+    return os.path.join(target, "release", "hostile")
+
+
+@functools.lru_cache(maxsize=None)
+def published(name):
+    """Returns what a call of the published crate takes for each text."""
+    return measured(rust_driver(), name)
+
+
+def theirs(call):
+    """Returns what the call of the published crate takes that this one is compared with."""
+    return published("crate try" if call in ASKED else "crate")
+
+
+def rust_call(call):
+    return judged(call, measured(rust_driver(), call), theirs(call))
+
+
+def c_call(call):
+    with tempfile.TemporaryDirectory() as folder:
+        program = os.path.join(folder, "hostile")
+        source = os.path.join(ROOT, "tests", "c_library", "hostile.c")
+        run([tool("cc", "gcc"), "-O2", "-Wall", "-I", INCLUDE, source, built(GIVEN.archive), "-o", program])
+        return judged(call, measured(program, call), theirs(call))
+
+
+def program_call(program, *words):
+    """Measures the program over each text that has a name of its own, in a process for each, without what its start takes."""
+    command = [built(program), "--hash", *words]
+    start, ours = instructions(command, b""), []
+    with futures.ThreadPoolExecutor(AT_ONCE) as pool:
+        sizes = pool.map(lambda text: len(run(command, input=text.bytes)), NAMED)
+        counts = pool.map(lambda text: instructions(command, text.bytes) - start, NAMED)
+        ours = list(zip(counts, sizes))
+    return judged(" ".join(["kodliwe", *words]), ours, theirs("kodliwe"))
+
+
+def page_times(texts):
+    """Returns the processor time of the page's module for a byte of each text, plain and folded."""
+    words = [tool("node", "nodejs"), "--no-warnings"]
+    # What newer releases have without a flag, they may refuse as one.
+    flag = "--experimental-wasm-memory64"
+    words += [flag] * (subprocess.run([*words, flag, "-e", "0"], stderr=subprocess.DEVNULL).returncode == 0)
+    said = run([*words, os.path.join(ROOT, "web", "tests", "cost.mjs")], input=json.dumps(texts).encode())
+    return [[cost / len(text) for cost in costs] for text, costs in zip(texts, json.loads(said))]
+
+
+def page():
+    """Compares each family with a text of four times its size. A text that seems too slow is tried again, since time varies."""
+    left, most = list(hostile_texts.FAMILIES), 0
+    for _ in range(3):
+        texts = [family(size) for name, family in hostile_texts.FAMILIES.items() if name in left for size in (SIZE, 4 * SIZE)]
+        times = page_times(texts)
+        growths = [max(b / a for a, b in zip(*times[at : at + 2])) for at in range(0, len(times), 2)]
+        most = max([most, *(growth for growth in growths if growth <= PAGE_GROWTH)])
+        left = [name for name, growth in zip(left, growths) if growth > PAGE_GROWTH]
+        if not left:
+            return "a byte of a text of four times the size costs at most %.2f times as much" % most
+    raise AssertionError("a byte of a larger text costs over %g times as much: %s" % (PAGE_GROWTH, ", ".join(left)))
+
+
+def high_water_mark(program, *words):
+    """Returns the kilobytes that the program had at most, after it wrote all that it could of the texts and one long run."""
+    runs = b"\n".join(text.bytes for text in TEXTS) + b"\n_R" + b"a" * LONGEST + b"\n_ZN3endE"
+    command = [built(program), "--hash", *words]
+    with subprocess.Popen(command, stdin=subprocess.PIPE, stdout=subprocess.PIPE) as child:
+        seen = threading.Event()
+
+        def read():
+            tail = b""
+            while piece := os.read(child.stdout.fileno(), 1 << 16):
+                tail = (tail + piece)[-100:]
+                if tail.endswith(b"\nend") or tail.endswith(b"a\n"):
+                    seen.set()
+
+        reader = threading.Thread(target=read)
+        reader.start()
+        child.stdin.write(runs + b" ")
+        child.stdin.flush()
+        assert seen.wait(60), "the end of the text is not written"
+        with open("/proc/%d/status" % child.pid, encoding="utf-8") as file:
+            found = int(re.search(r"^VmHWM:\s+(\d+) kB", file.read(), re.M)[1])
+        child.stdin.close()
+        reader.join()
+    assert child.returncode == 0, "status %d" % child.returncode
+    return found
+
+
+def memory(program):
+    most = MEMORY + 2 * LONGEST // 1024
+    found = [high_water_mark(program, *words) for words in ([], ["--fold"])]
+    assert max(found) <= most, "%s KB, more than %d" % (found, most)
+    return "%d KB plain and %d KB folded, at most %d" % (*found, most)
+
+
+def main():
+    words = argparse.ArgumentParser(description=__doc__, formatter_class=argparse.RawDescriptionHelpFormatter)
+    words.add_argument("--rust", metavar="FOLDER", default=RUST, help="the workspace of the Rust crate")
+    rust_common.add_programs(words)
+    words.add_argument("--archive", metavar="FILE", default=ARCHIVE, help="the static library for C")
+    words.add_argument("only", nargs="*", metavar="STEP", help="run these alone")
+    words.parse_args(namespace=GIVEN)
+    for name in ("rust", "archive"):
+        setattr(GIVEN, name, os.path.abspath(getattr(GIVEN, name)))
+    os.makedirs(rust_common.OUT, exist_ok=True)
+    tally = Tally(GIVEN.only)
+    for call in CALLS:
+        tally.step("rust " + call, rust_call, call)
+    for call in C_CALLS:
+        tally.step("c " + call, c_call, call)
+    for name, program in rust_common.chosen(GIVEN.programs):
+        tally.step("program %s" % name, program_call, program)
+        tally.step("program %s, folded" % name, program_call, program, "--fold")
+        tally.step("memory %s" % name, memory, program)
+    tally.step("page", page)
+    return tally.end()
+
+
+if __name__ == "__main__":
+    sys.exit(main())

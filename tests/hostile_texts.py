@@ -1,0 +1,323 @@
+"""Texts that are made to be costly: families that grow with a number, and symbols by the grammar of both schemes.
+
+Only families have names, so that a bound can be stated for each. All are ASCII, and the same each time.
+"""
+import random
+
+from texts import DIGITS
+
+
+def base62(number, zeros=0):
+    """Returns a number of v0, with leading zeros before it."""
+    if number == 0 and zeros == 0:
+        return "_"
+    digits, left = "", max(number - 1, 0)
+    while True:
+        digits, left = DIGITS[left % 62] + digits, left // 62
+        if left == 0:
+            return "0" * zeros + digits + "_"
+
+
+def back(place, zeros=0):
+    """Returns a reference to a place, which counts from the end of `_R`."""
+    return "B" + base62(place, zeros)
+
+
+# A suffix that no symbol has, with a number, so that no line is like another. What is before it is read before that is known.
+BAD = "$%06d"
+
+
+def wide(element, many, more, end=BAD):
+    """Returns a tuple in a tuple: the inner one has an element many times by references, and the outer one has the inner one."""
+    return "_RMC0TT" + element + back(5) * many + "E" + back(4) * more + "E" + end
+
+
+def doubled(first, levels, end=""):
+    """Returns a tuple whose last element has each earlier one twice, by references. The first is repeated 2^levels times."""
+    symbol, last = "_RMC0T" + first, 4
+    for _ in range(levels):
+        here = len(symbol) - 2
+        symbol += "T" + back(last) * 2 + "E"
+        last = here
+    return symbol + "E" + end
+
+
+def nested(first, levels, end=""):
+    """Returns that many tuples in each other around an element. Each has the one inside it again, by a reference."""
+    return "_RMC0" + "T" * levels + first + "".join(back(place) + "E" for place in range(levels + 3, 3, -1)) + end
+
+
+def overlapping(units, zeros, end=BAD):
+    """Returns a symbol whose references lead into the name before them, where a tuple begins that has all that follows."""
+    symbol = "MC0T"
+    for _ in range(units):
+        reference = back(len(symbol) + 2)
+        symbol += "C3TC%d%s" % (len(reference), reference)
+    return "_R" + symbol + "NvC0s" + "0" * zeros + "_0E" + end
+
+
+def lines(form, count):
+    return "".join(form % number + "\n" for number in range(count))
+
+
+# Each family returns a text of about that many bytes. Its cost is linear in its length today.
+FAMILIES = {
+    "plain text": lambda n: "at /src/lib.rs:17 x " * (n // 20),
+    "underscores": lambda n: "_" * n,
+    "_Z": lambda n: "_Z" * (n // 2),
+    "_R in a run": lambda n: "_R" * (n // 2),
+    "_ZN in a run": lambda n: "_ZN" * (n // 3),
+    "short v0 symbols": lambda n: "_RC1\n" * (n // 5),
+    "short legacy symbols": lambda n: "_ZN1aE\n" * (n // 7),
+    "symbols that end too early": lambda n: lines("_RNvC8aaaaaaaa8bbbbbbbb17%016d", n // 42),
+    "symbols that come once": lambda n: lines("_RNvNtC8aaaaaaaa8bbbbbbbb9ccc%06d1d", n // 38),
+    "symbols that repeat": lambda n: lines("_RNvC8aaaaaaaa8bbbbbbbb9ccc%06d", 50) * (n // 1700),
+    "long texts that repeat": lambda n: ("_RMC0T" + "RNvNtC8aaaaaaaa8bbbbbbbb9ccccccccc" * 80 + "E\n") * (n // 2744),
+    "numbers with zeros": lambda n: "_RNvC0s" + "0" * n + "_1a",
+    "constants with zeros": lambda n: "_RIC0Kj" + "0" * n + "1_E",
+    "strings": lambda n: "_RIC0KRe" + "c3a9" * (n // 4) + "_E",
+    "strings that are not UTF-8": lambda n: "_RIC0KRe" + "61" * (n // 2) + "ff_E",
+    "Punycode": lambda n: "_RNvC1au9bcher_kva\n" * (n // 19),
+    "long Punycode": lambda n: "_RNvC0u%d_%s_%s" % (n + 1 + n // 2, "a" * n, "b" * (n // 2)),
+    "types with lifetimes": lambda n: "_RMC0T" + "RL_h" * (n // 4) + "E",
+    "types": lambda n: "_RMC0T" + "Rh" * (n // 2) + "E",
+    "open tuples": lambda n: "_RMC0" + "T" * n,
+    "legacy elements": lambda n: "_ZN" + "1a" * (n // 2) + "E",
+    "legacy escapes": lambda n: "_ZN%d%sE" % (n // 4 * 4, "$LT$" * (n // 4)),
+    "legacy dots": lambda n: "_ZN%d%sE" % (n, "." * n),
+    "legacy number": lambda n: "_ZN" + "9" * n + "E",
+    "suffix": lambda n: "_RC1a." + "x" * n,
+    "suffixes of ThinLTO": lambda n: "_RC1a" + ".llvm." * (n // 6) + "A",
+    "dots": lambda n: "_R" + "." * n,
+    # The element is skipped, and references make a printer read it again before the end is known.
+    "A": lambda n: lines(wide("MIC0" + "h" * 1880 + "EC0", 22, 20), n // 2029),
+    "A, 30 bytes longer": lambda n: lines(wide("MIC0" + "h" * 1910 + "EC0", 22, 20), n // 2059),
+    "zeros": lambda n: lines(wide("NvC0s" + "0" * 1820 + "_0", 21, 41), n // 2029),
+    "hexadecimal zeros": lambda n: lines(wide("MIC0Kj" + "0" * 1860 + "_EC0", 21, 20), n // 2015),
+    "generic names": lambda n: lines(wide("MIC0" + "IC0E" * 460 + "EC0", 21, 20), n // 1990),
+    "chain": lambda n: lines(wide("Nv" * 20 + "C0" + ("s" + "0" * 85 + "_0") * 20, 21, 41), n // 2040),
+    "skipped strings": lambda n: lines(wide("MIC0Ke" + "61" * 930 + "_EC0", 21, 20), n // 2015),
+    "skipped constants": lambda n: lines(wide("MIC0" + "Kb0_" * 460 + "EC0", 21, 20), n // 1990),
+    "skipped placeholders": lambda n: lines(wide("MIC0" + "Kp" * 930 + "EC0", 21, 20), n // 2010),
+    "skipped crates": lambda n: lines(wide("MIC0" + "C0" * 930 + "EC0", 21, 20), n // 2010),
+    "folded arguments": lambda n: lines("_RMC0TTIC0" + "Kp" * 930 + "E" + back(5) * 21 + "E" + back(4) * 18 + "E" + BAD, n // 2000),
+    "overlaps": lambda n: lines(overlapping(12, 1800), n // 1990),
+    "a bad end": lambda n: lines(nested("MIC0" + "h" * 1000 + "EC0", 18, BAD), n // 1110),
+}
+
+# Only a limit of work could bound these: each is a symbol, and its references make a printer read a part again and again. The
+# requirement says what the library prints for them, so its calls take as long as that takes. Each is short here, since the cost of
+# most doubles with a few bytes. Their bound is the published crate's cost, which does the same work, times this.
+UNBOUNDED = {
+    "tuples in tuples": (2, lambda: nested("p", 10)),
+    "B": (3, lambda: nested("MIC0" + "h" * 400 + "EC0", 8)),
+    "B, longer": (3, lambda: nested("MIC0" + "h" * 1600 + "EC0", 8)),
+    "doubled": (2, lambda: doubled("u", 11)),
+    "doubled zeros": (3, lambda: doubled("NvC0s" + "0" * 300 + "_0", 7)),
+    "a path in itself": (3, lambda: "_RMC0TNvB3_s" + "0" * 300 + "_0" + "B3_" * 3 + "E"),
+    "references to zeros": (3, lambda: "_RMC0TNvC0s" + "0" * 1000 + "_0" + back(4) * 100 + "E"),
+    "references to an impl path": (3, lambda: "_RMC0TMIC0" + "h" * 1000 + "EC0" + back(4) * 100 + "E"),
+    "references to names": (3, lambda: "_RMC0T" + "Nv" * 240 + "C0" + "0" * 240 + back(4) * 100 + "E"),
+    "overlapping references": (3, lambda: overlapping(6, 300, "")),
+    "a binder": (2, lambda: "_RMC0FG" + base62(50_000) + "Eu"),
+}
+
+
+class Grammar:
+    """Makes v0 symbols by the grammar, with references to places that begin such a unit, or to any place."""
+
+    NAMES = ["0", "1a", "3foo", "2_x", "5_4ever", "2B_", "2Rh", "2C0", "5TB0_E", "u9bcher_kva", "u5_aaaa", "u3_bb", "8RRRRRRRu"]
+    LEAVES = ["u", "h", "z", "p", "e", "v", "i", "C1a"]
+    HEX = ["", "0", "1", "61", "c3a9", "e28ba9f09f9880", "ff", "22275c0a", "d800", "10ffff", "f"]
+
+    def __init__(self, seed):
+        self.dice = random.Random(seed)
+        self.left = self.dice.choice([3, 10, 40, 150, 400])
+        self.wild = self.dice.choice([0, 0, 10, 60])
+        self.places = {"path": [], "type": [], "constant": []}
+        self.text = ""
+
+    def put(self, *choices):
+        self.text += self.dice.choice(choices)
+
+    def may(self, chance):
+        return self.dice.random() < chance
+
+    def symbol(self):
+        """Returns a symbol, and sometimes a damaged one."""
+        self.path()
+        if self.may(0.2):
+            self.path()
+        return "_R" + self.text + self.dice.choice(["", "", "", ".llvm.1A", ".x", "$1", "E", ".a$_"])
+
+    def number(self):
+        self.text += base62(self.dice.choice([0, 0, 1, 2, 11, 63, 70_000]), self.dice.choice([0, 0, 0, 1, 9, 40]))
+
+    def disambiguator(self):
+        if self.may(0.3):
+            self.text += "s"
+            self.number()
+
+    def name(self):
+        self.disambiguator()
+        self.put(*self.NAMES)
+
+    def begins(self, kind):
+        """Begins a unit. Returns false if a reference took its place."""
+        self.left -= 1
+        known = self.places[kind]
+        if self.may(0.2) and (known or self.wild):
+            is_wild = not known or self.dice.randrange(100) < self.wild
+            self.text += back(
+                self.dice.randrange(len(self.text) + 2) if is_wild else self.dice.choice(known), self.dice.choice([0, 0, 0, 30])
+            )
+            return False
+        known.append(len(self.text))
+        return True
+
+    def several(self, unit, end="E"):
+        for _ in range(self.dice.choice([0, 1, 1, 2, 3])):
+            unit()
+        self.text += end
+
+    def one_of(self, *units):
+        """Makes one of several units, or the first if the symbol is long enough."""
+        units[0 if self.left < 0 else self.dice.randrange(len(units))]()
+
+    def path(self):
+        if not self.begins("path"):
+            return
+
+        def crate():
+            self.text += "C"
+            self.name()
+
+        def nested_path():
+            self.put("Nv", "Nt", "NC", "NS", "Na")
+            self.path()
+            self.name()
+
+        def inherent():
+            self.text += "M"
+            self.disambiguator()
+            self.path()
+            self.type()
+
+        def of_trait():
+            self.text += "X"
+            self.disambiguator()
+            self.path()
+            self.type()
+            self.path()
+
+        def trait():
+            self.text += "Y"
+            self.type()
+            self.path()
+
+        def generic():
+            self.text += "I"
+            self.path()
+            self.several(self.argument)
+
+        self.one_of(crate, crate, nested_path, nested_path, inherent, of_trait, trait, generic)
+
+    def argument(self):
+        kind = self.dice.randrange(6)
+        if kind == 0:
+            self.text += "L"
+            self.number()
+        elif kind < 3:
+            self.text += "K"
+            self.constant()
+        else:
+            self.type()
+
+    def binder(self):
+        if self.may(0.5):
+            self.put("G_", "G0_", "G9_", "GZZ_")
+
+    def type(self):
+        if not self.begins("type"):
+            return
+
+        def leaf():
+            self.put(*self.LEAVES)
+
+        def pointer():
+            self.put("R", "Q", "P", "O", "S", "RL0_", "QL_", "RL9_")
+            self.type()
+
+        def array():
+            self.text += "A"
+            self.type()
+            self.constant()
+
+        def tuple_type():
+            self.text += "T"
+            self.several(self.type)
+
+        def function():
+            self.text += "F"
+            self.binder()
+            self.put("", "U", "KC", "K3a_b", "UK1_")
+            self.several(self.type)
+            self.type()
+
+        def dynamic():
+            self.text += "D"
+            self.binder()
+            self.several(self.bound, "EL")
+            self.number()
+
+        self.one_of(leaf, leaf, pointer, array, tuple_type, tuple_type, function, dynamic, self.path, self.path)
+
+    def bound(self):
+        self.path()
+        for _ in range(self.dice.choice([0, 0, 1, 2])):
+            self.text += "p"
+            self.put(*self.NAMES)
+            self.type()
+
+    def constant(self):
+        if not self.begins("constant"):
+            return
+
+        def placeholder():
+            self.text += "p"
+
+        def literal():
+            self.put("h", "j", "an", "i", "b", "c", "xn", "e", "Re")
+            self.text += "0" * self.dice.choice([0, 0, 1, 16, 32]) + self.dice.choice(self.HEX) * self.dice.choice([1, 1, 2, 9]) + "_"
+
+        def reference():
+            self.put("R", "Q")
+            self.constant()
+
+        def several():
+            self.put("A", "T")
+            self.several(self.constant)
+
+        def structure():
+            self.text += "V"
+            self.path()
+            self.put("U", "TE", "SE")
+
+        self.one_of(placeholder, literal, literal, reference, several, structure)
+
+
+def legacy(seed):
+    """Returns a legacy symbol, and sometimes a damaged one."""
+    dice = random.Random(seed)
+    parts = ["a", "foo", "$LT$", "$GT$", "$u7e$", "$u20$", "..", ".", "_$", "$C$", "$ud800$", "$", "_", "$x$", "h0a"]
+    text = "_ZN"
+    for _ in range(1 + dice.randrange(6)):
+        element = "".join(dice.choice(parts) for _ in range(dice.randrange(5)))
+        text += "%s%d%s" % (dice.choice(["", "", "", "0"]), len(element), element)
+    return text + dice.choice(["", "17h0123456789abcdef"]) + dice.choice(["E", "E", "E.x", "E.llvm.0", "", "E0"])
+
+
+def made(count):
+    """Yields symbols by the grammar of both schemes, one in six of them a legacy one."""
+    for seed in range(count):
+        yield legacy(seed) if seed % 6 == 0 else Grammar(seed).symbol()
