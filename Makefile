@@ -4,7 +4,6 @@
 #   make                             proves and builds into out/build with the Rattle kit, and runs the program once
 #   make test                        runs every test; ONLY=web,c runs some suites (tests/run says which there are)
 #   make quick                       a first verdict on a change, within minutes (tests/quick.py); BASE=COMMIT names what it is compared with
-#   make edits                       tries the must-fail edits that the gate leaves out; ONLY=demangle_c,kodliwe tries those of some crates
 #   make install PREFIX= DESTDIR=    PREFIX is /usr/local if it is not given
 #   make uninstall PREFIX= DESTDIR=
 #   make dist                        out/dist: a tarball of the installed tree, a Debian package and the packages of cargo,
@@ -92,14 +91,12 @@ SOURCES := crates.txt $(shell find crates -path '*/out' -prune -o -name '*.rt' -
 SOURCE_DATE_EPOCH ?= $(shell git log -1 --format=%ct 2>/dev/null || date +%s)
 export SOURCE_DATE_EPOCH
 
-COMMA := ,
-
 # What cargo packs of rust/.
 CRATES := kodliwe-$(VERSION).crate kodliwe-cli-$(VERSION).crate rustc-demangle-0.1.28.crate
 # The functions of the headers.
 CALLS := $(shell sed -n 's/^KODLIWE_API [a-z_]* \([a-z_]*\).*/\1/p' include/kodliwe.h) rustc_demangle
 
-.PHONY: all libraries install uninstall dist crate crates test quick edits bench clean
+.PHONY: all libraries install uninstall dist crate crates test quick bench clean
 .DELETE_ON_ERROR:
 # The kit proves one crate at a time.
 .NOTPARALLEL:
@@ -239,9 +236,6 @@ test:
 
 quick:
 	tests/quick.py $(addprefix --base ,$(BASE))
-
-edits:
-	tests/edits.py --try $(addprefix --crate ,$(subst $(COMMA), ,$(ONLY)))
 
 bench:
 	bench/write.py

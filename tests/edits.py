@@ -3,10 +3,8 @@
 
     rt ci > gate.txt; tests/edits.py gate.txt          (or rt must-fail CRATE > gate.txt)
     tests/edits.py                                     (only reads the edits, and lists those that can't be right)
-    tests/edits.py --try [--crate NAME]..              (tries the edits that the gate leaves out: make edits)
-    tests/edits.py --table                             (prints what the gate leaves out, and which edit it tries instead)
 
-The gate tries crates/NAME/must-fail/*.edit. Those of crates/NAME/edits/ are tried by `make edits` alone.
+The gate tries every edit, crates/NAME/must-fail/*.edit.
 
 A line `clause: FUNCTION CLAUSE` of an edit names the function that the prover refuses first, and its clause: `ensures` if that
 has no name or is the function's only one, `loop` if it is the invariant of a loop, `invariant` if it is that of a type
@@ -14,23 +12,19 @@ whose value is made there, `call` if it is what a called function requires. The 
 cut off, the function alone is compared. With --write an edit that has no such line is given what the gate said of it, to be
 judged by a reader. An edit that the gate did not try is a failure, and so is one that has no such line.
 
-An edit of edits/ also names an edit of its crate that the gate tries: `kept: NAME` if the same clause of the same function
-refuses both, or else `nearest: NAME`, whose clause promises what is nearest to it.
-
 Without a file of the gate, an edit fails if it has no line `clause:` or more than one, if its crate has no such function, if no
-contract of the repository has such a clause, or if an `old:` text is not in its file exactly once. One of edits/ also fails if
-must-fail/ has an edit of its name, or if its line `kept:` or `nearest:` is missing, names no edit of must-fail/, or is the wrong one
-of the two. More than 340 edits in the folders must-fail/ are one failure. The last line is 'N passed, N failed'.
+contract of the repository has such a clause, or if an `old:` text is not in its file exactly once. More than 400 edits are one failure.
+The last line is 'N passed, N failed'.
 """
-import argparse, glob, os, re, shutil, subprocess, sys, tempfile
+import argparse, glob, os, re, sys
 
-from common import ROOT, run
+from common import ROOT
 
 CRATES = os.path.join(ROOT, "crates")
-# The folders of the edits: those that the gate tries, and those that it leaves out.
-GATE, LEFT = "must-fail", "edits"
-# How many edits the gate tries at most. Each takes half a minute of a processor.
-MOST = 340
+# The folder of a crate that has its edits.
+FOLDER = "must-fail"
+# The most edits. Each takes half a minute of a processor, and the gate has to end in time.
+MOST = 400
 SAID = re.compile(r"must-fail (\w+)/([\w.-]+)\.edit: (.*)")
 REFUSED = re.compile(r"refused, as it must be(?:: (.*))?$")
 IN_PROOF = re.compile(r"(?:\./)?proofs/(?:.*/)?([\w-]+)/\w+\.antt:\d+:\d+: \w+: `([^`]*)(`?)")
@@ -43,10 +37,10 @@ def read(*place):
         return file.read()
 
 
-def edits(names, part):
-    """Yields the crate, the name and the lines of each edit in these folders."""
+def edits(names):
+    """Yields the crate, the name and the lines of each edit of these crates, or of all."""
     for crate in sorted(os.listdir(CRATES)):
-        folder = os.path.join(CRATES, crate, part)
+        folder = os.path.join(CRATES, crate, FOLDER)
         if os.path.isdir(folder) and (not names or crate in names):
             for name in sorted(os.listdir(folder)):
                 if name.endswith(".edit"):
@@ -112,29 +106,6 @@ def clauses(lines):
     return [line[len("clause: ") :].split() for line in lines if line.startswith("clause: ")]
 
 
-def instead(lines):
-    """Returns the words of each line that names an edit which the gate tries."""
-    return [line.split() for line in lines if line.startswith(("kept:", "nearest:"))]
-
-
-def left_wrong(crate, name, lines):
-    """Returns what is wrong with how an edit that the gate leaves out names one that it tries, or None."""
-    if os.path.exists(os.path.join(CRATES, crate, GATE, name + ".edit")):
-        return "%s has an edit of this name too" % GATE
-    if [len(words) for words in instead(lines)] != [2]:
-        return "it has no line `kept: NAME` or `nearest: NAME`, or more than one"
-    word, other = instead(lines)[0]
-    if not os.path.exists(os.path.join(CRATES, crate, GATE, other + ".edit")):
-        return "%s has no edit %s" % (GATE, other)
-    is_same = clauses(lines) == clauses(read(CRATES, crate, GATE, other + ".edit").splitlines())
-    if is_same != (word == "kept:"):
-        return "the clause that refuses %s is %s" % (
-            other,
-            "the same, so the line is `kept:`" if is_same else "another, so the line is `nearest:`",
-        )
-    return None
-
-
 def sources(crate="*"):
     """Returns the text of all Rattle sources of a crate, or of every crate."""
     places = glob.glob(os.path.join(CRATES, crate, "src", "**", "*.rt"), recursive=True)
@@ -178,7 +149,7 @@ def check(crate, name, lines, said, write=False):
     wanted = clauses(lines)
     if not wanted:
         if write and found[1]:
-            with open(os.path.join(CRATES, crate, GATE, name + ".edit"), "a", encoding="utf-8") as file:
+            with open(os.path.join(CRATES, crate, FOLDER, name + ".edit"), "a", encoding="utf-8") as file:
                 file.write("clause: %s %s\n" % found)
         return "it has no line `clause: %s %s`" % (found[0], found[1] or "(cut off)")
     if wanted[0][0] != found[0] or found[1] and wanted[0][1:] != [found[1]]:
@@ -191,52 +162,20 @@ def said_of(lines):
     return {(found[1], found[2]): found[3] for found in map(SAID.search, lines) if found}
 
 
-def tried(names):
-    """Tries the edits that the gate leaves out, in a copy of the repository where they replace the gate's. Returns what rt said."""
-    with tempfile.TemporaryDirectory(prefix="kodliwe-edits-") as room:
-        for path in (
-            run(["git", "ls-files", "-z", "--cached", "--others", "--exclude-standard", "--", "crates.txt", "HANDLES", "crates"], cwd=ROOT)
-            .decode()
-            .split("\0")
-        ):
-            if path and "/%s/" % GATE not in path and os.path.isfile(os.path.join(ROOT, path)):
-                place = os.path.join(room, path.replace("/%s/" % LEFT, "/%s/" % GATE))
-                os.makedirs(os.path.dirname(place), exist_ok=True)
-                shutil.copyfile(os.path.join(ROOT, path), place)
-        said = []
-        with subprocess.Popen(["rt", "must-fail", *names], cwd=room, stdout=subprocess.PIPE, stderr=subprocess.STDOUT) as child:
-            for line in child.stdout:
-                said.append(line.decode(errors="replace"))
-                print(said[-1], end="", flush=True)
-        return said
-
-
-def print_table():
-    """Prints a line for each edit that the gate leaves out: its crate and name, its clause, and the edit that the gate tries."""
-    for crate, name, lines in edits(None, LEFT):
-        print("%-18s %-50s %-32s %s" % (crate, name, " ".join(clauses(lines)[0]), " ".join(instead(lines)[0])))
-
-
 def wrongs(options):
     """Yields the crate and the name of each edit that is looked at, and what is wrong with it, or None."""
-    names = Names()
-    if options.attempt:
-        left = list(edits(options.crate, LEFT))
-        said = said_of(tried(sorted({crate for crate, *_ in left})))
-        for crate, name, lines in left:
-            yield crate, name, check(crate, name, lines, said.get((crate, name), "rt did not try it"))
-    elif options.gate:
+    if options.gate:
         with open(options.gate, encoding="utf-8", errors="replace") as file:
             said = said_of(file)
-        for crate, name, lines in edits(options.crate, GATE):
+        for crate, name, lines in edits(options.crate):
             yield crate, name, check(crate, name, lines, said.get((crate, name), "the gate did not try it"), options.write)
     else:
-        for part in (GATE, LEFT):
-            for crate, name, lines in edits(options.crate, part):
-                yield crate, name, names.wrong(crate, lines) or (part == LEFT and left_wrong(crate, name, lines)) or None
-        count = len(list(edits(None, GATE)))
+        names = Names()
+        for crate, name, lines in edits(options.crate):
+            yield crate, name, names.wrong(crate, lines)
+        count = len(list(edits(None)))
         if count > MOST:
-            yield "crates", GATE, "%d edits, and at most %d: move those that tell least to %s/" % (count, MOST, LEFT)
+            yield "crates", FOLDER, "%d edits, and at most %d: remove those that tell least" % (count, MOST)
 
 
 def main():
@@ -244,12 +183,7 @@ def main():
     parser.add_argument("gate", nargs="?", help="what the gate said, or rt must-fail; without it only the lines are looked at")
     parser.add_argument("--crate", action="append", help="only the edits of this crate")
     parser.add_argument("--write", action="store_true", help="write the missing lines `clause:`")
-    parser.add_argument("--try", dest="attempt", action="store_true", help="try the edits that the gate leaves out")
-    parser.add_argument("--table", action="store_true", help="list the edits that the gate leaves out")
     options = parser.parse_args()
-    if options.table:
-        print_table()
-        return 0
     if options.gate and not os.path.exists(options.gate):
         print("no %s: `rt ci` or `rt must-fail` writes it" % options.gate)
         print("0 passed, 1 failed")
