@@ -5,7 +5,10 @@ mod tables;
 
 /// The properties.
 pub mod properties {
-    use super::tables::{CATEGORIES, GRAPHEME_EXTEND};
+    use super::tables::{
+        CATEGORIES_LASTS, CATEGORIES_NUMBERS, CATEGORIES_PLANES, GRAPHEME_EXTEND_LASTS,
+        GRAPHEME_EXTEND_PLANES,
+    };
 
     /// The general categories whose characters are escaped, and `Other` for the rest.
     #[derive(Clone, Copy, Debug, PartialEq, Eq)]
@@ -24,7 +27,9 @@ pub mod properties {
     impl GeneralCategory {
         /// Returns the category of a character.
         pub fn for_char(c: char) -> GeneralCategory {
-            match number_of(CATEGORIES, c) {
+            let run = run_of(&CATEGORIES_LASTS, &CATEGORIES_PLANES, c);
+            // A byte has the numbers of two runs.
+            match CATEGORIES_NUMBERS[run / 2] >> (4 * (run % 2)) & 0xF {
                 1 => GeneralCategory::SpaceSeparator,
                 2 => GeneralCategory::LineSeparator,
                 3 => GeneralCategory::ParagraphSeparator,
@@ -40,15 +45,18 @@ pub mod properties {
 
     /// Returns whether a character has the property `Grapheme_Extend`.
     pub fn is_grapheme_extend(c: char) -> bool {
-        number_of(GRAPHEME_EXTEND, c) == 1
+        // The runs with the property and those without it follow one another by turns.
+        run_of(&GRAPHEME_EXTEND_LASTS, &GRAPHEME_EXTEND_PLANES, c) % 2 == 1
     }
 
-    /// Returns the number that a table gives a character.
+    /// Returns the run of characters that a character is in.
     ///
-    /// A table has an entry for each run of characters with one number: 32 times the code point
-    /// after the run, plus the number.
-    fn number_of(table: &[u32], c: char) -> u32 {
-        let run = table.partition_point(|word| word / 32 <= u32::from(c));
-        table.get(run).map_or(0, |word| word % 32)
+    /// `lasts` has the last code point of each run, without its plane. `planes` has for each plane
+    /// the first run that ends in it or after it.
+    fn run_of(lasts: &[u16], planes: &[u16], c: char) -> usize {
+        let [_, plane, high, low] = u32::from(c).to_be_bytes();
+        let (last, plane) = (u16::from_be_bytes([high, low]), usize::from(plane));
+        let (start, end) = (usize::from(planes[plane]), usize::from(planes[plane + 1]));
+        start + lasts[start..end].partition_point(|other| *other < last)
     }
 }
