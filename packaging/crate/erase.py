@@ -24,6 +24,7 @@ import subprocess
 import sys
 from typing import NamedTuple
 
+from characters import packed
 from modules import (
     Module,
     Other,
@@ -287,7 +288,7 @@ def write_support(repository, folder):
             shutil.copy(os.path.join(SUPPORT, name + ".rs"), folder)
     if "unicode" in declared:
         with open(os.path.join(repository, *TABLES), encoding="utf-8") as file:
-            put(os.path.join(folder, "unicode", "tables.rs"), file.read())
+            put(os.path.join(folder, "unicode", "tables.rs"), packed(file.read()))
 
 
 def lay_out(target):

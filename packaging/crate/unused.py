@@ -32,10 +32,13 @@ class Named:
 
 
 class Use:
-    """A place where a name stands: its module, the named items that it is in, and whether a `.` is before it."""
+    """A place where a name stands: its module, the named items that it is in, and what is before it.
 
-    def __init__(self, module, within, is_member=False):
-        self.module, self.within, self.is_member = module, within, is_member
+    That is a `.`, or a path, which is empty if there is none.
+    """
+
+    def __init__(self, module, within, is_member=False, path=()):
+        self.module, self.within, self.is_member, self.path = module, within, is_member, path
 
     def is_dead(self):
         return any(item.is_dead for item in self.within)
@@ -52,6 +55,8 @@ class Usage:
 
     def __init__(self, modules, others):
         self.items, self.uses = [], {}
+        # The free items by their modules' paths and their names.
+        self.placed = {}
         self.trees = {module: tree_of(module.tokens) for module in modules}
         for module, tree in self.trees.items():
             # What the `impl`s of a type name is not a use of the type.
@@ -63,7 +68,7 @@ class Usage:
                 for leaf in leaves if visibility or module.is_above else []:
                     self.uses.setdefault(leaf[-1].split(" as ")[0], []).append(Use(module, ()))
 
-    def read(self, module, items, within, is_free, parent="mod"):
+    def read(self, module, items, within, is_free, parent="file"):
         at = 0
         for item in items_of(items):
             self.add_all(module, items[at : item.start], within)
@@ -73,6 +78,8 @@ class Usage:
                 named = self.types.get(item.name) if item.word in ("struct", "enum") else None
                 named = named or Named(module, item, parent != "impl")
                 self.items.append(named)
+                if parent == "file":
+                    self.placed[(*module.root(), item.name)] = named
                 inner = (*within, named)
             if item.word in ("impl", "trait", "mod") and item.body() is not None:
                 about = self.types.get(impl_of(item))
@@ -93,15 +100,21 @@ class Usage:
                 self.add(module, token, within)
 
     def add_all(self, module, items, within):
-        previous = ""
+        previous, path = "", ()
         for token in flat(items):
+            if token.is_blank():
+                continue
+            if token.text != "::" and previous != "::":
+                path = ()
             if previous != "fn":  # A function of the same name is no use.
-                self.add(module, token, within, previous == ".")
-            previous = previous if token.is_blank() else token.text
+                self.add(module, token, within, previous == ".", path)
+            if token.kind == "name":
+                path = (*path, token.text)
+            previous = token.text
 
-    def add(self, module, token, within, is_member=False):
+    def add(self, module, token, within, is_member=False, path=()):
         if token.kind == "name":
-            self.uses.setdefault(token.text, []).append(Use(module, within, is_member))
+            self.uses.setdefault(token.text, []).append(Use(module, within, is_member, path))
         elif token.kind == "string":
             for name in re.findall(r"\{(\w+)", token.text):
                 self.uses.setdefault(name, []).append(Use(module, within))
@@ -110,6 +123,8 @@ class Usage:
         uses = [use for use in self.uses.get(named.name, []) if named not in use.within]
         if named.is_free:
             uses = [use for use in uses if not use.is_member]
+            # A path to an item names no other.
+            uses = [use for use in uses if self.placed.get((*use.path, named.name), named) is named]
         if named.is_private:
             own = named.module.path
             uses = [use for use in uses if use.module in self.trees and use.module.path[: len(own)] == own]

@@ -49,8 +49,9 @@ def is_text(token):
 
 def without_ghosts(text, members):
     for word in GHOST_TYPES.values():
-        text = re.sub(rf", (?:and counts|with) (?:its|the) {word}\b(?: counted and without)?", "", text)
-        text = without_sentences(text, rf"`{word}`|\b(?:the|of) {word}\b")
+        one = word.removesuffix("s")
+        text = re.sub(rf", (?:and (?:it )?counts|with) (?:its|the|each|one) {one}s?\b(?: counted and without)?", "", text)
+        text = without_sentences(text, rf"`{word}`|\b(?:the|of) {word}\b|\bmakes (?:no|a|one|at most one) {one}\b")
     named = [name for name in members if f"`{name}`" in text]
     if named:
         text = without_sentences(text, r"\b(?:%s)\b" % "|".join(named))
