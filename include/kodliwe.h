@@ -22,8 +22,8 @@
  *   - A size is at most PTRDIFF_MAX, as for every object in C.
  *
  *   - The stack has room. 8 KiB suffice for every symbol that a compiler made: of 1,400 real ones, none made a call touch
- *     more than 5.6 KB. For a v0 symbol made to be deep, a call touches 14.5 KB. Such a symbol can be short: _RNvB_1a has
- *     8 bytes. For one that leaves over 512 productions open at once, a call touches up to 80 KB. If symbols come from
+ *     more than 6.1 KB. For a v0 symbol made to be deep, a call touches 13.8 KB. Such a symbol can be short: _RNvB_1a has
+ *     8 bytes. For one that leaves over 512 productions open at once, a call touches up to 81 KB. If symbols come from
  *     strangers, provide 96 KiB. The same holds for a handler with its own stack (sigaltstack; examples/backtrace.c).
  *
  *   - Time grows with the limit, not with out_size. If symbols may be hostile or time matters, as in a handler, call
@@ -110,8 +110,8 @@ KODLIWE_API size_t kodliwe_demangle_folded(const char *symbol, size_t symbol_len
  * unchanged.
  *
  * A candidate symbol starts at _ZN or _R. It ends before the next byte that is not an ASCII letter, a digit, $, . or _. Its
- * path is cut as by kodliwe_demangle_limited. After a letter or a digit it stays: SW_RC0.zip is no symbol. A single _ before
- * a symbol, as macOS has it, is replaced with it, if the _ is the first byte or follows one that no symbol may have.
+ * path is cut as by kodliwe_demangle_limited. After a letter or a digit it stays, as in SW_RC0.zip. A single _ before a
+ * symbol, as macOS has it, is replaced with it, if the _ is the first byte or follows one that no symbol may have.
  *
  * Returns the number of bytes of the whole new text and its NUL, whatever out_size is. It writes as much of the text to out
  * as kodliwe_demangle does of a path. The result is never 0. It is SIZE_MAX if a size_t cannot hold the number, which needs

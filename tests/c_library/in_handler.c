@@ -1,5 +1,6 @@
 /* Makes each call in a signal handler on a separate stack, and prints a line for each: its name, and the most bytes of that stack
- * that it touches. The input is that of answers.c. */
+ * that it touches. The input is that of answers.c. With the name of a call, it makes only this call, once, for the first symbol:
+ * so the loader binds functions of the C library on that stack. */
 #define _GNU_SOURCE
 #include "kodliwe.h"
 
@@ -61,7 +62,11 @@ static size_t touched(int call) {
     return STACK - low;
 }
 
-int main(void) {
+int main(int count, char **arguments) {
+    int first = 0;
+    for (int call = 1; call < CALLS; call++) {
+        if (count > 1 && strcmp(arguments[1], calls[call]) == 0) first = call;
+    }
     stack = aligned_alloc(4096, STACK);
     stack_t alternate = {.ss_sp = stack, .ss_size = STACK};
     struct sigaction action = {.sa_handler = handler, .sa_flags = SA_ONSTACK};
@@ -72,6 +77,11 @@ int main(void) {
     while (fread(&len, sizeof len, 1, stdin) == 1) {
         if (len > sizeof symbol || fread(&limit, sizeof limit, 1, stdin) != 1 || fread(symbol, 1, len, stdin) != len) return 2;
         path_len = kodliwe_path_len(symbol, len);
+        if (first != 0) {
+            hash = true;
+            printf("%s %zu\n", calls[first], touched(first) - alone);
+            return 0;
+        }
         for (int call = 1; call < CALLS; call++) {
             for (int form = 0; form < 2; form++) {
                 hash = form == 0;

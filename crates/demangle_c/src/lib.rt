@@ -279,8 +279,8 @@ fn write_c_string(text: &str, out: &mut [u8])
     put_nul(out, text.len());
 }
 
-/// Writes the name and the version of the library to memory, and that it is proved, with a 0 after
-/// them. Returns the number of bytes of that text and the 0.
+/// Writes the name and the version of the library to memory, and whether it is proved, with a 0
+/// after them. Returns the number of bytes of that text and the 0.
 ///
 /// The result does not depend on the size of the memory. The memory receives as much of the text as
 /// fits before a 0, and no byte after the 0 is changed. The call does not allocate.
