@@ -25,6 +25,7 @@ use Rattle.demangle_v0.specs.declared.parser.State.{State}
 use Rattle.demangle_v0.specs.declared.parser.StepError.{StepError}
 use Rattle.demangle_v0.specs.Frames.{on_top}
 use Rattle.demangle_v0.specs.declared.parser.frames.Frame.{Frame}
+use Rattle.demangle_v0.specs.declared.fuel.Fuel.{Fuel}
 use Rattle.demangle_v0.specs.declared.parser.machine.Parser.{Parser}
 use Rattle.demangle_v0.specs.declared.parser.steps.ReadOutcome.{ReadOutcome}
 use Rattle.demangle_v0.specs.declared.parser.steps.Checkpoint.{Checkpoint}
@@ -68,9 +69,9 @@ token_group is_printed m w = token_spec m.source.symbol.now w m.state.letter is_
 abbrev pub looked : Parser → ℕ → Parser
 looked m n = record m { looks = n }
 
--- only the place, whether a bracket is open, and the count of looks may change
+-- only the place, whether a bracket is open, the fuel and the count of looks may change
 abbrev pub Placed : Parser → Parser → Type 0
-Placed m k = k ≡ record m { state = record m.state { place = k.state.place; is_bracket_open = k.state.is_bracket_open }; looks = k.looks }
+Placed m k = k ≡ record m { state = record m.state { place = k.state.place; is_bracket_open = k.state.is_bracket_open }; fuel = k.fuel; looks = k.looks }
 
 abbrev pub checked_at : Parser → Continuation → State → Parser
 checked_at m p s = record m { continuation = p; state = s }
@@ -79,10 +80,22 @@ checked_at m p s = record m { continuation = p; state = s }
 abbrev pub checkpoint_of : Parser → Checkpoint
 checkpoint_of m = record { continuation = m.continuation; state = m.state }
 
+-- The fuel of a parser: all of it, for the steps outside of references and within them, and none.
+
+abbrev pub all_of : Fuel → ℕ
+all_of fuel = fuel.left + fuel.reserve
+
+abbrev pub no_fuel : Fuel
+no_fuel = record { left = 0; reserve = 0; outer = 0; unpaid = 0; is_inside = false }
+
+-- no other fuel, or none for the next step
+abbrev pub KeepsFuel : Parser → Parser → Type 0
+KeepsFuel m k = 0 < k.fuel.left → k.fuel ≡ m.fuel
+
 -- A new parser: of a path, or of the same parse, with room for this many frames.
 
 abbrev pub path_parser : Source → ℕ → ℕ → ℕ → Parser
-path_parser source i room n = record { source = source; continuation = continuation.Path; state = first_state i; stack = record { frames = []; room = room }; fuel = 0; looks = n }
+path_parser source i room n = record { source = source; continuation = continuation.Path; state = first_state i; stack = record { frames = []; room = room }; fuel = no_fuel; looks = n }
 
 abbrev pub roomier : Parser → ℕ → Parser
 roomier m n = record m { stack = record m.stack { room = n } }
@@ -183,7 +196,7 @@ left_at n (Some i) = n - i
 -- A step makes four looks for each byte that it reads, and `more` looks. A reference leads back, which the fuel pays for.
 -- Nothing is known once the fuel is used up.
 abbrev pub Paced : ℕ → Parser → Parser → Type 0
-Paced more m k = 0 < k.fuel → k.looks + 4 * k.fuel + 4 * left_at (length m.source.symbol.now) k.state.place ≤ m.looks + 4 * m.fuel + 4 * left_at (length m.source.symbol.now) m.state.place + more
+Paced more m k = 0 < k.fuel.left → k.looks + 4 * all_of k.fuel + 4 * left_at (length m.source.symbol.now) k.state.place ≤ m.looks + 4 * all_of m.fuel + 4 * left_at (length m.source.symbol.now) m.state.place + more
 
 -- the same without a reference: at most four looks for each byte that is read, and `more` looks
 abbrev pub ReadsOn : ℕ → Parser → Parser → Type 0
@@ -196,7 +209,7 @@ LooksAt more m k = k.looks ≤ m.looks + 4 * left_at (length m.source.symbol.now
 -- the most looks of a parse with a budget, whatever its result: the fuel and the bytes that are left pay for all but those
 -- of the last part that is not printed
 abbrev pub most_looks : Parser → ℕ
-most_looks m = m.looks + 4 * m.fuel + 4 * left_at (length m.source.symbol.now) m.state.place + 32 * (length m.source.symbol.now + 1) + 7
+most_looks m = m.looks + 4 * all_of m.fuel + 4 * left_at (length m.source.symbol.now) m.state.place + 32 * (length m.source.symbol.now + 1) + 7
 
 -- The effect of the loops.
 

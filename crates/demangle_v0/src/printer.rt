@@ -1,9 +1,8 @@
 //! Prints the first path of a v0 symbol. Each step prints what it reads as soon as it is known.
 ghost use Rattle.std.specs.Prelude.{◌≡◌, ◌+◌, ◌*◌, ◌≤◌, [], true, false, length, IsAscii, IfSome, IsOk, IsTrue, Ok, Some, None};
 ghost use Rattle.demangle_sink.specs.Limit.{Ready};
-ghost use Rattle.demangle_v0.specs.Parsers.{EndsPrinting, IsValid, UnfinishedIsValid, Paced, PrintsAll, PrintsOn, PrintsSteps, PrintsTo, Same, first_looks_of, most_looks, unfinished_looks};
+ghost use Rattle.demangle_v0.specs.Parsers.{EndsPrinting, IsValid, UnfinishedIsValid, Paced, PrintsAll, PrintsOn, PrintsSteps, PrintsTo, Same, all_of, first_looks_of, most_looks, unfinished_looks};
 
-use crate::fuel::{STEP_FUEL, ends};
 use crate::parser::Continuation;
 use crate::parser::frames::{FULL_STACK, MIDDLE_STACK, UNUSED_FRAME};
 use crate::parser::machine::Parser;
@@ -54,10 +53,7 @@ impl Parser<'_, '_> {
                 self.continuation = Continuation::End;
                 return Ok(None);
             };
-            // The difference is stored before it is tested, which takes two instructions.
-            let (fuel, is_spent) = self.fuel.overflowing_sub(STEP_FUEL);
-            self.fuel = fuel;
-            if ends(is_spent, has_budget) {
+            if !self.fuel.pay_step(has_budget) {
                 return Err(SinkRefused);
             }
             // An impl path only identifies the impl, and arguments may be folded. They are read and
@@ -242,7 +238,7 @@ impl Parser<'_, '_> {
         match self.print_steps(out, true) {
             Ok(None) => true,
             Ok(Some(Unfinished::Printing)) => {
-                if self.fuel == 0 {
+                if self.fuel.left == 0 {
                     return false;
                 }
                 self.print_in_middle_stack_within(out)
@@ -269,16 +265,16 @@ impl Parser<'_, '_> {
         ensures empty { IfSome result (λ _. self.new.stack.frames ≡ []) }
         ensures same { Same self.old self.new }
         ensures grows { self.old.looks ≤ self.new.looks }
-        ensures most { self.new.looks ≤ self.old.looks + 4 * self.old.fuel + 36 * (length
+        ensures most { self.new.looks ≤ self.old.looks + 4 * all_of self.old.fuel + 36 * (length
             self.old.source.symbol.now + 1) + 3 }
-        ensures most_of_all { IfSome result (λ _. self.new.looks ≤ self.old.looks + 4 * self.old.fuel + 4 *
+        ensures most_of_all { IfSome result (λ _. self.new.looks ≤ self.old.looks + 4 * all_of self.old.fuel + 4 *
             length self.old.source.symbol.now) }
     {
         if !self.print_within(out) {
             return None;
         }
         // Without fuel the looks are unknown.
-        if self.fuel == 0 {
+        if self.fuel.left == 0 {
             return None;
         }
         self.stack.truncate(0);

@@ -1,7 +1,7 @@
 //! Validates v0 symbols: parses them without output, and finds the suffix.
 ghost use Rattle.std.specs.Prelude.{◌≡◌, ◌+◌, ◌*◌, ◌≤◌, [], length, false, true, IsAscii, IfSome, IsSome, Ok, Some};
 ghost use Rattle.demangle_v0_grammar.specs.Items.{a_path};
-ghost use Rattle.demangle_v0.specs.Parsers.{IsValid, Recounted, Same, trace_without_output};
+ghost use Rattle.demangle_v0.specs.Parsers.{IsValid, Recounted, Same, all_of, trace_without_output};
 ghost use Rattle.demangle_v0.specs.Measure.{AllInner};
 ghost use Rattle.demangle_v0.specs.Loops.{first_state};
 ghost use Rattle.demangle_v0_grammar.specs.Reading.{starts_second_path, path_texts, unit_end, suffix_place, read_at};
@@ -9,7 +9,7 @@ ghost use Rattle.demangle_v0_grammar.specs.LookTotals.{allowed_in};
 ghost use Rattle.demangle_v0_grammar.specs.ValidationLooks.{looks_in, suffix_looks, accepting_looks};
 ghost use Rattle.demangle_sink.specs.Limit.{Prints, Ready};
 
-use crate::fuel::fuel_of;
+use crate::fuel::Fuel;
 use crate::parser::Continuation;
 use crate::parser::frames::{FULL_STACK, MIDDLE_STACK, SHORT_STACK, UNUSED_FRAME};
 use crate::parser::machine::Parser;
@@ -178,7 +178,7 @@ fn printed_suffix<S: TextSink>(
     ensures prints { IfSome result (λ _. Prints S.TextSink out.old (path_texts parser.old.source.symbol.now
         parser.old.source.form) (Ok tt) out.new) }
     ensures grows { parser.old.looks ≤ parser.new.looks }
-    ensures most { parser.new.looks ≤ parser.old.looks + 4 * parser.old.fuel + 36 * (length
+    ensures most { parser.new.looks ≤ parser.old.looks + 4 * all_of parser.old.fuel + 36 * (length
         parser.old.source.symbol.now + 1) + 3 }
 {
     let end = parser.print_to_place(out)?;
@@ -211,7 +211,7 @@ pub fn print_to_suffix<S: TextSink>(
 {
     let mut memory = [UNUSED_FRAME; SHORT_STACK];
     let mut parser = Parser::at_path(source, 0, &mut memory, looks);
-    parser.fuel = fuel_of(source.symbol.len());
+    parser.fuel = Fuel::of(source.symbol.len());
     let end = printed_suffix(&mut parser, out);
     *looks = parser.looks;
     end

@@ -12,6 +12,7 @@ mod calls;
 mod faults;
 mod folded;
 mod formats;
+mod fuel;
 mod hostile;
 mod legacy;
 mod legacy_elements;

@@ -15,8 +15,10 @@ pub enum ByteBefore {
     Mark,
 }
 
+// A filter calls some of these methods at each run. They are inlined, as each is a few instructions.
 impl ByteBefore {
     /// Returns what a byte is for the text after it.
+    #[inline(always)]
     fn of(byte: u8) -> Self
         ensures { result ≡ before_of byte }
     {
@@ -30,6 +32,7 @@ impl ByteBefore {
     }
 
     /// Returns what is before the text that follows these bytes.
+    #[inline(always)]
     pub(crate) fn after(self, text: &[u8]) -> Self
         ensures { result ≡ before_after self text.now }
     {
@@ -41,6 +44,7 @@ impl ByteBefore {
     }
 
     /// Returns whether this is a letter or digit.
+    #[inline(always)]
     pub(crate) fn is_alphanumeric(self) -> bool
         ensures yes { IsTrue result → self ≡ ByteBefore.Alphanumeric }
         ensures no { result ≡ false → self ≡ ByteBefore.Alphanumeric → ⊥ }
@@ -49,6 +53,7 @@ impl ByteBefore {
     }
 
     /// Returns whether this is outside of runs.
+    #[inline(always)]
     pub(crate) fn is_outside(self) -> bool
         ensures yes { IsTrue result → self ≡ ByteBefore.Outside }
         ensures no { result ≡ false → self ≡ ByteBefore.Outside → ⊥ }
@@ -57,6 +62,7 @@ impl ByteBefore {
     }
 
     /// Returns whether a candidate starts here: a run, or a run with the `_` that it takes in.
+    #[inline(always)]
     pub(crate) fn starts_candidate(self, text: &[u8]) -> bool
         ensures { result ≡ starts_candidate self text.now }
     {
@@ -66,6 +72,7 @@ impl ByteBefore {
 
     /// Returns the length of plain text before a run, without the `_` at its end that the run takes
     /// in.
+    #[inline(always)]
     pub(crate) fn plain_len(self, text: &[u8]) -> usize
         ensures { IsPlainLen self text.now result }
     {

@@ -156,34 +156,12 @@ impl<'s> Symbol<'s> {
         Ok((value, next))
     }
 
-    /// Reads a disambiguator and returns it with the place after it. It is 0 if the tag `s` is
-    /// missing.
-    ///
-    /// # Errors
-    ///
-    /// Returns `Invalid` if the tag has no integer after it, or if the disambiguator is 2^64 or
-    /// more.
-    #[inline(always)]
-    pub fn disambiguator(&self, place: usize, looks: &mut Looks) -> Result<(u64, usize), ParseError>
-        ensures ok { IfOk result (λ r. OptInteger 115 self.now place r.1 r.0) }
-        ensures err { OnErr result ((j v : ℕ) → OptInteger 115 self.now place j v → ⊥) }
-        ensures read { result_ok result ≡ optional_at 115 self.now place }
-        ensures fault { IfErr result (λ e. e ≡ ParseError.Invalid) }
-        ensures grows { looks.old ≤ looks.new }
-        ensures ok_looks { IfOk result (λ r. looks.new ≤ looks.old + 4 * (r.1 - place + 1)) }
-        ensures err_looks { OnErr result
-            (looks.new ≤ looks.old + 4 * (length self.now - place + 1)) }
-        ensures within { IfOk result
-            (λ r. (place ≤ r.1) × (place ≤ length self.now → r.1 ≤ length self.now)) }
-    {
-        self.opt_integer_62(b's', place, looks)
-    }
-
     /// Returns the place after a disambiguator, which gets no value.
     ///
     /// # Errors
     ///
-    /// Returns `Invalid` as `disambiguator` does.
+    /// Returns `Invalid` if the tag `s` has no integer after it, or if the disambiguator is 2^64 or
+    /// more.
     #[inline(always)]
     pub fn after_disambiguator(&self, place: usize, looks: &mut Looks) -> Result<usize, ParseError>
         ensures ok { IfOk result (λ j. (v : ℕ) × OptInteger 115 self.now place j v) }
@@ -203,12 +181,13 @@ impl<'s> Symbol<'s> {
         self.after_tag(place + 1, looks)
     }
 
-    /// Reads a disambiguator and returns it with the place after it. If it is not needed, it gets no
-    /// value, and 0 is returned in its place.
+    /// Reads a disambiguator and returns it with the place after it. It is 0 if the tag `s` is
+    /// missing. If it is not needed, it gets no value, and 0 is returned in its place.
     ///
     /// # Errors
     ///
-    /// Returns `Invalid` as `disambiguator` does.
+    /// Returns `Invalid` if the tag has no integer after it, or if the disambiguator is 2^64 or
+    /// more.
     #[tactic(auto, using(crate::proofs::Integers::optional_reads))]
     #[inline(always)]
     pub fn disambiguator_if(
@@ -298,7 +277,7 @@ impl<'s> Symbol<'s> {
             (looks.new ≤ looks.old + 4 * (length self.now - place)) }
         ensures within { IfSome result (λ j. (place < j) × (j ≤ length self.now)) }
     {
-        let rest = self.from_digit(place);
+        let rest = self.cut_at_digit(place);
         if rest.len() < UNCHECKED_DIGITS + 2 {
             return self.after_checked_integer(place, looks);
         }
@@ -323,7 +302,7 @@ impl<'s> Symbol<'s> {
     /// Returns the symbol's bytes from a digit on. It makes no look.
     #[tactic(auto, using(crate::proofs::IntegerEnds::digit_boundary))]
     #[inline(always)]
-    fn from_digit(&self, place: usize) -> Symbol<'s>
+    fn cut_at_digit(&self, place: usize) -> Symbol<'s>
         requires digit { (d : ℕ) × Digit62 self.now place d }
         ensures bytes { result ≡ drop place self.now }
         ensures fewer { length result + place ≡ length self.now }

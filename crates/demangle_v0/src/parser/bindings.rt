@@ -6,6 +6,7 @@ ghost use Rattle.demangle_v0.specs.Parsers.{Performed, CanPerform, CanAdvance, A
 ghost use Rattle.demangle_v0.specs.Continuations.{bindings_left};
 
 use crate::parser::machine::Parser;
+use crate::parser::names::has_encoded_name;
 use crate::parser::{Continuation, StepError};
 use demangle_v0_tokens::fixed_texts::FixedText;
 use demangle_v0_tokens::output::Output;
@@ -93,6 +94,7 @@ impl Parser<'_, '_> {
         match self.token_at(TokenKind::BindingName, output) {
             TokenOutcome::Parsed(name, next) => {
                 self.state.place = next;
+                self.fuel.use_up_if(has_encoded_name(&name));
                 self.emit(&name, output)?;
                 Ok(Continuation::BindingValue)
             }

@@ -16,7 +16,8 @@ use demangle_v0_tokens::tags::{ConstantKind, constant_kind};
 use demangle_v0_tokens::token::TokenKind;
 
 impl Parser<'_, '_> {
-    /// Reads and prints a string, with which the constant ends.
+    /// Reads and prints a string, with which the constant ends. It leaves no fuel, because its
+    /// characters are slow to print.
     #[inline(never)]
     pub(super) fn literal<V: Output>(&mut self, output: &mut V) -> Result<Continuation, StepError>
         requires can_step { CanPrint V.Output self.old output.old }
@@ -25,6 +26,7 @@ impl Parser<'_, '_> {
             self.old.state.place }
         ensures paced { IsOk result → Paced 8 self.old self.new }
     {
+        self.fuel.use_up();
         self.end_with_token(TokenKind::StrLiteral, output)
     }
 

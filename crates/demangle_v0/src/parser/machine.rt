@@ -4,6 +4,7 @@ ghost use Rattle.demangle_v0.specs.Parsers.{deeper, roomier, looked, with_text, 
 ghost use Rattle.demangle_v0.specs.Traces.{frame_at, frame_of};
 ghost use Rattle.demangle_v0.specs.declared.parser.StepError.TheVariants.{Abort};
 
+use crate::fuel::Fuel;
 use crate::parser::frames::{Frame, FrameStack, PackedFrame};
 use crate::parser::{Continuation, State, StepError};
 use demangle_symbol::cursor::Looks;
@@ -18,8 +19,8 @@ pub struct Parser<'m, 'f> {
     pub source: Source<'m>,
     pub state: State,
     pub stack: FrameStack<'f>,
-    /// What is left of the budget for accepting a symbol. No other parse tests it.
-    pub fuel: usize,
+    /// The budget for accepting a symbol. No other parse has fuel.
+    pub fuel: Fuel,
     pub looks: Looks,
     pub continuation: Continuation,
 }
@@ -41,7 +42,7 @@ impl<'m, 'f> Parser<'m, 'f> {
             continuation: Continuation::Path,
             state: State::at_path(place),
             stack: FrameStack::new(memory),
-            fuel: 0,
+            fuel: Fuel::none(),
             looks: mem::replace(looks, Looks::new()),
         }
     }

@@ -2,7 +2,7 @@
 #![tactic(auto, using(crate::proofs::Pace::place_left))]
 
 ghost use Rattle.std.specs.Prelude.{◌≡◌, ℕ, ◌+◌, ◌-◌, ◌*◌, ◌≤◌, length, true, None, Some, IfNone, IfOk, IfSome, IsAscii, IsOk, MatchOption, OnOk};
-ghost use Rattle.demangle_v0.specs.Parsers.{Performed, PerformedRest, Placed, CanPrint, Paced, ReadsOn, LooksAt, looked};
+ghost use Rattle.demangle_v0.specs.Parsers.{KeepsFuel, Performed, PerformedRest, Placed, CanPrint, Paced, ReadsOn, LooksAt, looked};
 ghost use Rattle.demangle_v0.specs.Productions.{crate_path};
 ghost use Rattle.demangle_v0_grammar.specs.LookTotals.{total};
 ghost use Rattle.demangle_v0_tokens.specs.Tokens.{named_group, texts_of};
@@ -27,8 +27,20 @@ use demangle_v0_tokens::token::Token;
 fn is_special(namespace: u8) -> bool
     ensures { result ≡ is_upper namespace }
 {
-    match namespace {
-        b'A'..=b'Z' => true,
+    namespace.is_ascii_uppercase()
+}
+
+/// Returns whether a name is in Punycode, whose decoding is slow.
+#[inline(always)]
+fn is_encoded(name: &Ident) -> bool {
+    name.punycode.from != name.punycode.to
+}
+
+/// Returns whether a token is the name of a field or of an associated type, and in Punycode.
+#[inline(always)]
+pub(super) fn has_encoded_name(token: &Token) -> bool {
+    match token {
+        Token::FieldName(name) | Token::BindingName(name) => is_encoded(name),
         _ => false,
     }
 }
@@ -76,6 +88,7 @@ impl Parser<'_, '_> {
             output.old result self.new output.new }
         ensures ends { IfOk result (λ next. next ≡ Continuation.End) }
         ensures placed { Placed self.old self.new }
+        ensures fuel { KeepsFuel self.old self.new }
         ensures reads { IsOk result → ReadsOn 5 self.old self.new }
         ensures most { LooksAt 5 self.old self.new }
     {
@@ -86,6 +99,7 @@ impl Parser<'_, '_> {
         let (name, number, next) = named.ok_or(StepError::Abort(FixedText::Invalid))?;
         self.state.place = Some(next);
         self.state.is_bracket_open = false;
+        self.fuel.use_up_if(is_encoded(&name));
         self.emit(&Token::CrateName(name, number), output)?;
         Ok(Continuation::End)
     }
@@ -112,6 +126,7 @@ impl Parser<'_, '_> {
         ensures performs { Performed V.Output Continuation.NestedName self.old output.old result self.new output.new }
         ensures ends { IfOk result (λ next. next ≡ Continuation.End) }
         ensures placed { Placed self.old self.new }
+        ensures fuel { KeepsFuel self.old self.new }
         ensures reads { IsOk result → ReadsOn 5 self.old self.new }
         ensures most { LooksAt 5 self.old self.new }
     {
@@ -130,6 +145,7 @@ impl Parser<'_, '_> {
         ensures performs { Performed V.Output Continuation.NestedName self.old output.old result self.new output.new }
         ensures ends { IfOk result (λ next. next ≡ Continuation.End) }
         ensures placed { Placed self.old self.new }
+        ensures fuel { KeepsFuel self.old self.new }
         ensures reads { IsOk result → ReadsOn 5 self.old self.new }
         ensures most { LooksAt 5 self.old self.new }
     {
@@ -141,6 +157,7 @@ impl Parser<'_, '_> {
         let (ident, number, next) = named.ok_or(StepError::Abort(FixedText::Invalid))?;
         self.state.place = Some(next);
         self.state.is_bracket_open = false;
+        self.fuel.use_up_if(is_encoded(&ident));
         let name = Token::NestedName(self.state.letter, number, ident);
         self.emit(&name, output)?;
         Ok(Continuation::End)

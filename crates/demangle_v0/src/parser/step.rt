@@ -92,7 +92,7 @@ impl Parser<'_, '_> {
                 self.state.place = None;
                 self.state.is_bracket_open = false;
                 // A symbol is not accepted by printing after an error.
-                self.fuel = 0;
+                self.fuel.use_up();
                 output.emit_error(&self.source, &Token::Fixed(fault), &mut self.looks)?;
                 Ok(Continuation::End)
             }

@@ -6,6 +6,7 @@ ghost use Rattle.demangle_v0.specs.Parsers.{Performed, CanPerform, CanAdvance, A
 ghost use Rattle.demangle_v0_tokens.specs.Tags.{variant_of};
 
 use crate::parser::machine::Parser;
+use crate::parser::names::has_encoded_name;
 use crate::parser::{Continuation, StepError};
 use demangle_v0_tokens::fixed_texts::FixedText;
 use demangle_v0_tokens::output::Output;
@@ -79,6 +80,7 @@ impl Parser<'_, '_> {
         match self.token_at(TokenKind::FieldName, output) {
             TokenOutcome::Parsed(token, next) => {
                 self.state.place = next;
+                self.fuel.use_up_if(has_encoded_name(&token));
                 self.emit(&token, output)?;
                 Ok(Continuation::FieldColon)
             }

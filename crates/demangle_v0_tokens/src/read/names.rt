@@ -13,33 +13,6 @@ use crate::read::{TokenOutcome, TokenReader, invalid_token, token_read};
 use crate::token::Token;
 use demangle_symbol::cursor::{Ident, Looks, Symbol};
 
-/// Reads a disambiguator and the name after it. Returns the name, the disambiguator and the place
-/// after both, or `None` if they are not spelled there.
-#[inline(always)]
-pub fn disambiguated_name(
-    symbol: &Symbol<'_>,
-    place: usize,
-    looks: &mut Looks,
-) -> Option<(Ident, u64, usize)>
-    ensures some { (f : Ident → ℕ → Token) → IfSome result (λ r. Parsed (f r.0 r.1) (Some r.2) ≡
-        (named_group symbol.now place f).reads) }
-    ensures none { (f : Ident → ℕ → Token) → IfNone result (NotParsed FixedText.Invalid ≡ (named_group
-        symbol.now place f).reads) }
-    ensures grows { looks.old ≤ looks.new }
-    ensures looks { (f : Ident → ℕ → Token) → MatchOption result (looks.new ≤ looks.old + total
-        (named_group symbol.now place f).costs) (λ r. looks.new + name_size r.0 ≤ looks.old + total
-        (named_group symbol.now place f).costs) }
-    ensures in_bounds { IfSome result (λ r. IsIdentWithin symbol.now r.0) }
-{
-    let Ok((number, at)) = symbol.disambiguator(place, looks) else {
-        return None;
-    };
-    let Ok((ident, next)) = symbol.ident(at, looks) else {
-        return None;
-    };
-    Some((ident, number, next))
-}
-
 /// Reads a disambiguator, which gets no value, and the name after it. Returns the name and the place
 /// after it, or `None` if they are not spelled there.
 #[inline(always)]

@@ -1,4 +1,4 @@
-//! Tests of v0 runs in memory, which are printed before they are known to be symbols. The expected
+//! Tests of v0 runs in memory. Some are printed before they are known to be symbols. The expected
 //! texts are those of the Rust crate.
 use rustc_demangle::sink::WriteSink;
 use rustc_demangle::{Format, demangle_slice_formatted, demangle_text_formatted};
@@ -155,6 +155,121 @@ fn runs_of_each_kind(rt: HostRuntime) -> Result<(), Fail> {
         ("_RUBY", "_RUBY", "_RUBY"),
         ("_R", "_R", "_R"),
     ] {
+        assert_filters_to(
+            &rt,
+            run,
+            Format::unfolded(true, 1_000_000),
+            plain.as_bytes(),
+        );
+        assert_filters_to(&rt, run, Format::folded(true, 1_000_000), folded.as_bytes());
+        assert_filters_alike(&rt, rt.alloc(), run)?;
+    }
+    Ok(())
+}
+
+/// Runs with their texts, plain and folded. Most are printed first. The last is too short for that,
+/// and those after a name that is cut off are probably not complete.
+const LONG_RUNS: [(&str, &str, &str); 19] = [
+    (
+        "_RNvNtCs1234abcd_7mycrate3foo3bar",
+        "mycrate[34f0b3031b3]::foo::bar",
+        "mycrate[34f0b3031b3]::foo::bar",
+    ),
+    (
+        "_RNvNtCs1234abcd_7mycrate3foo3bar.cold",
+        "mycrate[34f0b3031b3]::foo::bar.cold",
+        "mycrate[34f0b3031b3]::foo::bar.cold",
+    ),
+    (
+        "_RNvNtCs1234abcd_7mycrate3foo3bar.llvm.123",
+        "mycrate[34f0b3031b3]::foo::bar",
+        "mycrate[34f0b3031b3]::foo::bar",
+    ),
+    (
+        "_RNvNtCs1234abcd_7mycrate3foo3bar.llvm.12a",
+        "mycrate[34f0b3031b3]::foo::bar.llvm.12a",
+        "mycrate[34f0b3031b3]::foo::bar.llvm.12a",
+    ),
+    (
+        "_RNvNtCs1234abcd_7mycrate3foo3barNtB2_3foo",
+        "mycrate[34f0b3031b3]::foo::bar",
+        "mycrate[34f0b3031b3]::foo::bar",
+    ),
+    (
+        "_RNvNtCs1234abcd_7mycrate3foo3barCs99_5other",
+        "mycrate[34f0b3031b3]::foo::bar",
+        "mycrate[34f0b3031b3]::foo::bar",
+    ),
+    (
+        "_RNvMs_NtCs1234abcd_7mycrate3fooNtB4_3Bar3baz",
+        "<mycrate[34f0b3031b3]::foo::Bar>::baz",
+        "<mycrate[34f0b3031b3]::foo::Bar>::baz",
+    ),
+    (
+        "_RNvXs_NtCs1234abcd_7mycrate3fooNtB4_3BarNtB4_5Trait3baz",
+        "<mycrate[34f0b3031b3]::foo::Bar as mycrate[34f0b3031b3]::foo::Trait>::baz",
+        "<mycrate[34f0b3031b3]::foo::Bar as mycrate[34f0b3031b3]::foo::Trait>::baz",
+    ),
+    (
+        "_RINvNtCs1234abcd_7mycrate3foo3barKc41_Kb1_Kan5_E",
+        "mycrate[34f0b3031b3]::foo::bar::<'A', true, -5i8>",
+        "mycrate[34f0b3031b3]::foo::bar::<_>",
+    ),
+    (
+        "_RINvNtCs1234abcd_7mycrate3foo3barDNtB4_5Traitp4ItemhEL_E",
+        "mycrate[34f0b3031b3]::foo::bar::<dyn mycrate[34f0b3031b3]::Trait<Item = u8>>",
+        "mycrate[34f0b3031b3]::foo::bar::<_>",
+    ),
+    (
+        "_RINvNtCs1234abcd_7mycrate3foo3barDG_INtB4_5TraitRL0_hEEL_E",
+        "mycrate[34f0b3031b3]::foo::bar::<dyn for<'a> mycrate[34f0b3031b3]::Trait<&'a u8>>",
+        "mycrate[34f0b3031b3]::foo::bar::<_>",
+    ),
+    (
+        "_RINvNtCs1234abcd_7mycrate3foo3barRL_hE",
+        "mycrate[34f0b3031b3]::foo::bar::<&u8>",
+        "mycrate[34f0b3031b3]::foo::bar::<_>",
+    ),
+    (
+        "_RINvNtCs1234abcd_7mycrate3foo3barKRe616263_E",
+        "mycrate[34f0b3031b3]::foo::bar::<\"abc\">",
+        "mycrate[34f0b3031b3]::foo::bar::<_>",
+    ),
+    (
+        "_RNCNvNtCs1234abcd_7mycrate3foo3bars_0",
+        "mycrate[34f0b3031b3]::foo::bar::{closure#1}",
+        "mycrate[34f0b3031b3]::foo::bar::{closure#1}",
+    ),
+    (
+        "_RINvNtCs1234abcd_7mycrate3foo3barB99_E",
+        "_RINvNtCs1234abcd_7mycrate3foo3barB99_E",
+        "_RINvNtCs1234abcd_7mycrate3foo3barB99_E",
+    ),
+    (
+        "_RNvNtCs1234abcd_7mycrate3foo3barx",
+        "_RNvNtCs1234abcd_7mycrate3foo3barx",
+        "_RNvNtCs1234abcd_7mycrate3foo3barx",
+    ),
+    (
+        "_RNvNtCs1234abcd_7mycrate3foo3bar$x",
+        "_RNvNtCs1234abcd_7mycrate3foo3bar$x",
+        "_RNvNtCs1234abcd_7mycrate3foo3bar$x",
+    ),
+    (
+        "_RNvNtNtCs1234abcd_7mycrate3foo3bar",
+        "_RNvNtNtCs1234abcd_7mycrate3foo3bar",
+        "_RNvNtNtCs1234abcd_7mycrate3foo3bar",
+    ),
+    (
+        "_RNvNtCs1234abc_7mycrate3foo3bar",
+        "mycrate[da97884f0]::foo::bar",
+        "mycrate[da97884f0]::foo::bar",
+    ),
+];
+
+#[test]
+fn runs_that_may_be_printed_first(rt: HostRuntime) -> Result<(), Fail> {
+    for (run, plain, folded) in LONG_RUNS {
         assert_filters_to(
             &rt,
             run,

@@ -1,5 +1,5 @@
 //! Tests which runs are printed first.
-use super::{may_be_complete, run_may_print_slowly};
+use super::{Credit, may_be_complete, run_may_print_slowly};
 use std::test::Fail;
 
 /// Runs that may be complete: after a name, an `E`, a back reference or a closure, and with a suffix.
@@ -40,22 +40,28 @@ const OTHER: [&str; 16] = [
     "_R",
 ];
 
-/// Runs with a name in Punycode of ten bytes or a binder of two lifetimes, in several groups.
-const SLOW: [&str; 5] = [
+/// Runs with a name in Punycode or a binder of two lifetimes: in the first group of 16 bytes, in the
+/// last one, and over the border of two. The last is too short for a group.
+const SLOW: [&str; 9] = [
     "_RNvC3foou10abcdefghij",
-    "_RNvNtCsabcdefghijk_4core5slice4sortu10abcdefghij",
+    "_RNvC3foou9abcdefghi",
+    "_RNvC8abcdefghu1abcdefghij",
+    "_RNvC9abcdefghiu1abcdefghi",
+    "_RNvNtCsabcdefghijk_4core5slice4sortu1ab",
     "_RMC0FG_EFG0_E_________",
     "_RIC3foo_________DG1_E",
     "_RIC3foo____________________________________FGZ_",
+    "_RNvC3foo3barEEEE",
 ];
 
 /// Runs without these.
-const FAST: [&str; 5] = [
-    "_RNvC3foou9abcdefghi",
-    "_RNvNtCsabcdefghijk_4core5slice4sort9abcdefghi",
+const FAST: [&str; 6] = [
+    "_RNvC3foo3barEEEEE",
+    "_RNvC3foo10u0abcdefgh",
+    "_RNvNtCsabcdefghijk_4core5slice4sortu0a",
+    "_RNvNtCsabcdefghijk_4core5slice4sort1u",
     "_RMC0FG_EDG_E__________",
     "_RIC3foo_________FU",
-    "_RFG0_E",
 ];
 
 #[test]
@@ -77,5 +83,22 @@ fn ends_of_paths(rt: HostRuntime) -> Result<(), Fail> {
     for run in OTHER {
         assert!(rt; !may_be_complete(run.as_bytes()));
     }
+    Ok(())
+}
+
+#[test]
+fn credit_after_a_run_in_vain(rt: HostRuntime) -> Result<(), Fail> {
+    let mut credit = Credit::new();
+    assert!(rt; credit.is_given());
+    credit.lose("_RNvC3foo");
+    assert!(rt; !credit.is_given());
+    // Runs that are written as they are give none back, and symbols their length: 36 bytes in all.
+    credit.gain("_R..................................q", 37);
+    credit.gain("_RNvC3foo3bar", 8);
+    credit.gain("_RNvC3foo3bar", 8);
+    credit.gain("_RNvC3fo1", 7);
+    assert!(rt; !credit.is_given());
+    credit.gain("_", 0);
+    assert!(rt; credit.is_given());
     Ok(())
 }

@@ -263,7 +263,7 @@ The texts
 and
 .B ?
 show that one could not be followed or read.
-No symbol, however it is made, makes the program hang or end.
+No symbol, however it is made, makes the program run for ever or end.
 .PP
 A path is printed as the symbol spells it, and not escaped for HTML, JSON or a
 terminal.

@@ -1,8 +1,10 @@
 // Made from crates/demangle_legacy/src/lib.rt by packaging/crate/erase.py: edit that file instead.
 //! Parses and prints legacy symbols: `_ZN`, then elements after their lengths, then `E`.
 
+#[cfg(feature = "stream")]
 use crate::demangle_sink::{SizeLimitedFmtAdapter, TextSink};
 use crate::demangle_symbol::cursor::Symbol;
+#[cfg(feature = "stream")]
 use crate::demangle_symbol::form::Form;
 
 mod elements;
@@ -62,6 +64,7 @@ pub fn demangle(s: &str, is_ascii: bool) -> Result<(Demangle<'_>, &str), ()> {
 ///
 /// Returns `None` if the text is not a legacy symbol, or if the sink or the limit rejects a piece.
 /// Then an unknown part of it may be printed, and `demangle` says whether the text is a symbol.
+#[cfg(feature = "stream")]
 pub fn demangle_printed<'s, S: TextSink>(
     s: &'s str,
     out: &mut SizeLimitedFmtAdapter<'_, S>,

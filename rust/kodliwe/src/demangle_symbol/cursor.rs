@@ -1,5 +1,5 @@
 // Made from crates/demangle_symbol/src/cursor.rt by packaging/crate/erase.py: edit that file instead.
-//! Access to the bytes of a symbol. Only `Symbol::byte` reads one, and it counts each look.
+//! Access to the bytes of a symbol. Only `Symbol::byte` reads one.
 
 use crate::demangle_sink::{SinkRefused, SizeLimitedFmtAdapter, TextSink};
 
@@ -44,7 +44,7 @@ pub struct Span<'s> {
 }
 
 impl<'s> Span<'s> {
-    /// Puts the text into a sink as one piece. It makes no look.
+    /// Puts the text into a sink as one piece.
     ///
     /// # Errors
     ///
@@ -64,17 +64,17 @@ impl<'s> Symbol<'s> {
         Symbol { inner }
     }
 
-    /// Returns the number of bytes. It makes no look.
+    /// Returns the number of bytes.
     pub fn len(&self) -> usize {
         self.inner.len()
     }
 
-    /// Returns the byte at a place, or `None` after the end. It makes one look.
+    /// Returns the byte at a place, or `None` after the end.
     pub fn byte(&self, place: usize) -> Option<u8> {
         self.inner.as_bytes().get(place).copied()
     }
 
-    /// Returns `true` if all bytes are ASCII. It makes at most one look for each byte.
+    /// Returns `true` if all bytes are ASCII.
     pub fn is_ascii(&self) -> bool {
         let mut all = true;
         for at in 0..self.len() {
@@ -86,7 +86,7 @@ impl<'s> Symbol<'s> {
         all
     }
 
-    /// Returns the text of a part, to be put into a sink. It makes no look.
+    /// Returns the text of a part, to be put into a sink.
     #[cfg_attr(not(debug_assertions), inline(always))]
     pub fn span(&self, part: Part) -> Span<'s> {
         let bytes = &self.inner.as_bytes()[part.from..part.to];
@@ -95,7 +95,7 @@ impl<'s> Symbol<'s> {
         Span { text }
     }
 
-    /// Returns `true` if the byte at a place is `byte`. It makes one look.
+    /// Returns `true` if the byte at a place is `byte`.
     pub fn is_at(&self, byte: u8, place: usize) -> bool {
         match self.byte(place) {
             Some(b) => b == byte,

@@ -2,7 +2,6 @@
 //! Prints the first path of a v0 symbol. Each step prints what it reads as soon as it is known.
 
 use crate::demangle_sink::{SinkRefused, SizeLimitedFmtAdapter, TextSink};
-use crate::demangle_v0::fuel::{STEP_FUEL, ends};
 use crate::demangle_v0::parser::Continuation;
 use crate::demangle_v0::parser::frames::{FULL_STACK, MIDDLE_STACK, UNUSED_FRAME};
 use crate::demangle_v0::parser::machine::Parser;
@@ -38,10 +37,7 @@ impl Parser<'_, '_> {
                 self.continuation = Continuation::End;
                 return Ok(None);
             };
-            // The difference is stored before it is tested, which takes two instructions.
-            let (fuel, is_spent) = self.fuel.overflowing_sub(STEP_FUEL);
-            self.fuel = fuel;
-            if ends(is_spent, has_budget) {
+            if !self.fuel.pay_step(has_budget) {
                 return Err(SinkRefused);
             }
             // An impl path only identifies the impl, and arguments may be folded. They are read and
@@ -161,7 +157,7 @@ impl Parser<'_, '_> {
         match self.print_steps(out, true) {
             Ok(None) => true,
             Ok(Some(Unfinished::Printing)) => {
-                if self.fuel == 0 {
+                if self.fuel.left == 0 {
                     return false;
                 }
                 self.print_in_middle_stack_within(out)
@@ -183,7 +179,7 @@ impl Parser<'_, '_> {
             return None;
         }
 
-        if self.fuel == 0 {
+        if self.fuel.left == 0 {
             return None;
         }
         self.stack.truncate(0);

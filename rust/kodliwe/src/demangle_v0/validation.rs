@@ -1,7 +1,7 @@
 // Made from crates/demangle_v0/src/validation.rt by packaging/crate/erase.py: edit that file instead.
 //! Validates v0 symbols: parses them without output, and finds the suffix.
 
-use crate::demangle_v0::fuel::fuel_of;
+use crate::demangle_v0::fuel::Fuel;
 
 use crate::demangle_sink::{SizeLimitedFmtAdapter, TextSink};
 use crate::demangle_symbol::cursor::Symbol;
@@ -124,6 +124,6 @@ pub fn print_to_suffix<S: TextSink>(
 ) -> Option<usize> {
     let mut memory = [UNUSED_FRAME; SHORT_STACK];
     let mut parser = Parser::at_path(source, 0, &mut memory);
-    parser.fuel = fuel_of(source.symbol.len());
+    parser.fuel = Fuel::of(source.symbol.len());
     printed_suffix(&mut parser, out)
 }

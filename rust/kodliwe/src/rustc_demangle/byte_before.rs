@@ -16,8 +16,10 @@ pub enum ByteBefore {
     Mark,
 }
 
+// A filter calls some of these methods at each run. They are inlined, as each is a few instructions.
 impl ByteBefore {
     /// Returns what a byte is for the text after it.
+    #[cfg_attr(not(debug_assertions), inline(always))]
     fn of(byte: u8) -> Self {
         if byte.is_ascii_alphanumeric() {
             ByteBefore::Alphanumeric
@@ -29,6 +31,7 @@ impl ByteBefore {
     }
 
     /// Returns what is before the text that follows these bytes.
+    #[cfg_attr(not(debug_assertions), inline(always))]
     pub(crate) fn after(self, text: &[u8]) -> Self {
         if text.is_empty() {
             self
@@ -38,17 +41,20 @@ impl ByteBefore {
     }
 
     /// Returns whether this is a letter or digit.
+    #[cfg_attr(not(debug_assertions), inline(always))]
     pub(crate) fn is_alphanumeric(self) -> bool {
         matches!(self, ByteBefore::Alphanumeric)
     }
 
     /// Returns whether this is outside of runs.
+    #[cfg_attr(not(debug_assertions), inline(always))]
     pub(crate) fn is_outside(self) -> bool {
         matches!(self, ByteBefore::Outside)
     }
 
     /// Returns whether a candidate starts here: a run, or a run with the `_` that it takes in.
     #[cfg(feature = "stream")]
+    #[cfg_attr(not(debug_assertions), inline(always))]
     pub(crate) fn starts_candidate(self, text: &[u8]) -> bool {
         starts_run(text)
             || (self.is_outside() && !text.is_empty() && text[0] == b'_' && starts_run(&text[1..]))
@@ -56,6 +62,7 @@ impl ByteBefore {
 
     /// Returns the length of plain text before a run, without the `_` at its end that the run takes
     /// in.
+    #[cfg_attr(not(debug_assertions), inline(always))]
     pub(crate) fn plain_len(self, text: &[u8]) -> usize {
         if text.is_empty() || text[text.len() - 1] != b'_' {
             return text.len();

@@ -19,12 +19,8 @@ const TEXT_SIZE: usize = 768;
 /// The most bytes of a run that is printed first. Few texts are longer than two times their run.
 const MAX_RUN: usize = TEXT_SIZE / 2;
 
-/// The most bytes of such a text beyond two times its run. A short run may print any number of
-/// lifetimes, or the target of a reference again and again.
-const MORE_TEXT: usize = 64;
-
-/// After a run that was printed in vain, runs of this many times its bytes are not printed first.
-const PAUSE: usize = 8;
+/// What a run that was printed in vain costs, in bytes of symbols for each of its bytes.
+const COST: usize = 4;
 
 /// The last digits of the numbers from 31 to 1, and a byte that no run has.
 static ONES: [u8; 32] = *b"1098765432109876543210987654321 ";
@@ -32,14 +28,50 @@ static ONES: [u8; 32] = *b"1098765432109876543210987654321 ";
 /// The digits before those.
 static TENS: [u8; 32] = *b"3322222222221111111111000000000 ";
 
+/// Whether the runs of a text are printed first. After a run that was printed in vain, they are not,
+/// until enough symbols were printed. So a text of such runs takes little longer.
+#[derive(Clone, Copy)]
+pub(crate) struct Credit {
+    /// The bytes of symbols that have to be printed before a run is printed first again.
+    owed: usize,
+}
+
+impl Credit {
+    /// Returns the credit of a text of which nothing was read.
+    #[cfg_attr(not(debug_assertions), inline(always))]
+    pub(crate) fn new() -> Self {
+        Credit { owed: 0 }
+    }
+
+    /// Returns whether a run may be printed first.
+    #[cfg_attr(not(debug_assertions), inline(always))]
+    fn is_given(&self) -> bool {
+        self.owed == 0
+    }
+
+    /// Takes account of a run that was printed in vain.
+    #[cfg_attr(not(debug_assertions), inline(always))]
+    fn lose(&mut self, run: &str) {
+        self.owed = run.len().saturating_mul(COST);
+    }
+
+    /// Takes account of a run that was not printed first and wrote a text of this size.
+    #[cfg_attr(not(debug_assertions), inline(always))]
+    fn gain(&mut self, run: &str, size: usize) {
+        // A run that is no symbol is written as it is. Few symbols print a text of their own length.
+        if size != run.len() {
+            self.owed = self.owed.saturating_sub(run.len());
+        }
+    }
+}
+
 /// Returns whether these bytes may begin a part that takes far longer to print than to validate: a
-/// name in Punycode of ten bytes or more, or a binder of two lifetimes or more.
+/// name in Punycode, or a binder of two lifetimes or more.
 #[cfg_attr(not(debug_assertions), inline(always))]
 fn may_print_slowly(first: u8, second: u8, third: u8) -> bool {
-    let punycode =
-        (first == b'u') & (second >= b'1') & (second <= b'9') & (third >= b'0') & (third <= b'9');
+    let name = (first == b'u') & matches!(second, b'1'..=b'9');
     let binder = ((first == b'F') | (first == b'D')) & (second == b'G') & (third != b'_');
-    punycode | binder
+    name | binder
 }
 
 /// Returns whether such a part may begin in the group of 16 bytes at `from`.
@@ -62,11 +94,11 @@ fn group_may_print_slowly(run: &[u8], from: usize) -> bool {
     any
 }
 
-/// Returns whether a run of 18 bytes or more may have such a part. Validation decodes no name, and
-/// prints no lifetime.
+/// Returns whether a run may have such a part. Validation decodes no name, and prints no lifetime.
+/// Returns `true` if the run has fewer than 18 bytes.
 fn run_may_print_slowly(run: &[u8]) -> bool {
     let Some(last) = run.len().checked_sub(18) else {
-        return false;
+        return true;
     };
     let mut from = 0;
     while from < last {
@@ -135,20 +167,12 @@ fn is_printed_first(run: &str, format: Format) -> bool {
         && !run_may_print_slowly(run.as_bytes())
 }
 
-/// Returns the most bytes of the text of a run that is printed first.
-#[cfg_attr(not(debug_assertions), inline(always))]
-fn text_limit(run: &str, format: Format) -> usize {
-    let most = run.len().saturating_mul(2).saturating_add(MORE_TEXT);
-    format.limit.min(most)
-}
-
 /// Prints a v0 run into memory. Returns the size of its text, or `None` if the run is not known to
 /// be a symbol then.
 #[cfg_attr(not(debug_assertions), inline(always))]
 fn print_into(run: &str, memory: &mut [u8], format: Format) -> Option<usize> {
     let mut sink = SliceSink::new(memory);
-    let limit = text_limit(run, format);
-    if print_v0_run(run, &mut sink, format, limit) {
+    if print_v0_run(run, &mut sink, format) {
         Some(sink.len())
     } else {
         None
@@ -172,19 +196,32 @@ fn put_printed<'b>(run: &str, out: &mut SliceSink<'b>, format: Format) -> bool {
     out.put_bytes(&memory[..size]).is_ok()
 }
 
+/// Writes the replacement of a run after it is known whether the run is a symbol. Fails if the sink
+/// fails.
+fn put_run_after<'b>(
+    run: &str,
+    out: &mut SliceSink<'b>,
+    format: Format,
+    credit: &mut Credit,
+) -> Result<(), SinkRefused> {
+    let before = out.len();
+    let result = put_run(run, out, format);
+    credit.gain(run, out.len().wrapping_sub(before));
+    result
+}
+
 /// Writes the replacement of a run as `put_run` does, and reads a v0 run once if it can. Fails if
 /// the sink fails.
 ///
-/// `pause` is the number of bytes in runs that are not printed first from here on.
+/// `credit` says whether the run may be printed first, and takes account of it.
 pub(crate) fn put_run_first<'b>(
     run: &str,
     out: &mut SliceSink<'b>,
     format: Format,
-    pause: &mut usize,
+    credit: &mut Credit,
 ) -> Result<(), SinkRefused> {
-    if *pause > 0 {
-        *pause = pause.saturating_sub(run.len());
-        return put_run(run, out, format);
+    if !credit.is_given() {
+        return put_run_after(run, out, format, credit);
     }
     if !is_printed_first(run, format) {
         return put_run(run, out, format);
@@ -192,6 +229,6 @@ pub(crate) fn put_run_first<'b>(
     if put_printed(run, out, format) {
         return Ok(());
     }
-    *pause = run.len().saturating_mul(PAUSE);
+    credit.lose(run);
     put_run(run, out, format)
 }

@@ -64,8 +64,7 @@ fn is_graphic(byte: u8) -> bool {
     matches!(byte, 0x21..=0x7E)
 }
 
-/// Returns whether a suffix is allowed: empty, or `.` followed only by graphic characters. It makes
-/// at most one look for each byte.
+/// Returns whether a suffix is allowed: empty, or `.` followed only by graphic characters.
 pub(crate) fn is_allowed(suffix: &str) -> bool {
     let symbol = Symbol::new(suffix);
     if symbol.len() == 0 {

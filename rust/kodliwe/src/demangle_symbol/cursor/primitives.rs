@@ -99,24 +99,12 @@ impl<'s> Symbol<'s> {
         Ok((value, next))
     }
 
-    /// Reads a disambiguator and returns it with the place after it. It is 0 if the tag `s` is
-    /// missing.
-    ///
-    /// # Errors
-    ///
-    /// Returns `Invalid` if the tag has no integer after it, or if the disambiguator is 2^64 or
-    /// more.
-    #[cfg(all(test, feature = "stream"))]
-    #[cfg_attr(not(debug_assertions), inline(always))]
-    pub fn disambiguator(&self, place: usize) -> Result<(u64, usize), ParseError> {
-        self.opt_integer_62(b's', place)
-    }
-
     /// Returns the place after a disambiguator, which gets no value.
     ///
     /// # Errors
     ///
-    /// Returns `Invalid` as `disambiguator` does.
+    /// Returns `Invalid` if the tag `s` has no integer after it, or if the disambiguator is 2^64 or
+    /// more.
     #[cfg_attr(not(debug_assertions), inline(always))]
     pub fn after_disambiguator(&self, place: usize) -> Result<usize, ParseError> {
         if !self.is_at(b's', place) {
@@ -125,12 +113,13 @@ impl<'s> Symbol<'s> {
         self.after_tag(place + 1)
     }
 
-    /// Reads a disambiguator and returns it with the place after it. If it is not needed, it gets no
-    /// value, and 0 is returned in its place.
+    /// Reads a disambiguator and returns it with the place after it. It is 0 if the tag `s` is
+    /// missing. If it is not needed, it gets no value, and 0 is returned in its place.
     ///
     /// # Errors
     ///
-    /// Returns `Invalid` as `disambiguator` does.
+    /// Returns `Invalid` if the tag has no integer after it, or if the disambiguator is 2^64 or
+    /// more.
     #[cfg_attr(not(debug_assertions), inline(always))]
     pub fn disambiguator_if(
         &self,
@@ -177,7 +166,7 @@ impl<'s> Symbol<'s> {
     // it and drops the test of each place.
     #[cfg_attr(not(debug_assertions), inline(always))]
     fn after_first_digit(&self, first: u64, place: usize) -> Option<usize> {
-        let rest = self.from_digit(place);
+        let rest = self.cut_at_digit(place);
         if rest.len() < UNCHECKED_DIGITS + 2 {
             return self.after_checked_integer(place);
         }
@@ -199,9 +188,9 @@ impl<'s> Symbol<'s> {
         self.after_checked_integer(place)
     }
 
-    /// Returns the symbol's bytes from a digit on. It makes no look.
+    /// Returns the symbol's bytes from a digit on.
     #[cfg_attr(not(debug_assertions), inline(always))]
-    fn from_digit(&self, place: usize) -> Symbol<'s> {
+    fn cut_at_digit(&self, place: usize) -> Symbol<'s> {
         Symbol {
             inner: &self.inner[place..],
         }
@@ -274,7 +263,7 @@ impl<'s> Symbol<'s> {
         Ok((target as usize, next))
     }
 
-    /// Returns the place after an optional byte. It makes one look.
+    /// Returns the place after an optional byte.
     pub fn skip(&self, byte: u8, place: usize) -> usize {
         if self.is_at(byte, place) {
             place + 1

@@ -7,8 +7,7 @@ use crate::demangle_symbol::cursor::Symbol;
 pub const WINDOW: usize = 16;
 
 impl<'s> Symbol<'s> {
-    /// Returns the sixteen bytes at a place, or `None` if fewer are there. It makes a look for each
-    /// of them.
+    /// Returns the sixteen bytes at a place, or `None` if fewer are there.
     #[cfg_attr(not(debug_assertions), inline(always))]
     pub fn window(&self, place: usize) -> Option<&'s [u8; WINDOW]> {
         for _ in 0..WINDOW {}

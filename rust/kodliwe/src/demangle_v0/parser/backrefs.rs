@@ -8,14 +8,6 @@ use crate::demangle_v0_tokens::backref::{BackrefOutcome, read_backref};
 use crate::demangle_v0_tokens::output::Output;
 
 impl Parser<'_, '_> {
-    /// Uses up fuel for that many bytes, or all that is left.
-    // Where a reference uses fuel and gets it back is not inlined. Otherwise the fuel would stay in
-    // a register, and each step would take two instructions more.
-    #[inline(never)]
-    fn use_fuel(&mut self, bytes: usize) {
-        self.fuel = self.fuel.saturating_sub(bytes);
-    }
-
     /// Reads a back reference after its `B`, and continues at its target if `output` prints.
     ///
     /// `unit` is the continuation at which the target begins. The frame on top of the stack then
@@ -44,33 +36,18 @@ impl Parser<'_, '_> {
                 });
                 self.state.depth_left -= 1;
                 self.state.place = Some(target);
-                self.use_fuel(next - target);
+                self.fuel.enter(target, next);
                 Ok(unit)
             }
         }
-    }
-
-    /// Gives back the fuel for the bytes from the end of a reference's target up to `next`, the end
-    /// of the reference. So a reference uses up the fuel for the bytes of its target.
-    ///
-    /// Uses up all fuel if the target has an error or ends after the reference. Such a target can
-    /// make the parser read the same bytes often, and no real symbol has one.
-    #[inline(never)]
-    fn give_back_fuel(&mut self, next: usize) {
-        self.fuel = match self.state.place {
-            // Without a budget the sum may be too large. Then it is any number.
-            Some(end) if end <= next && next <= self.source.symbol.len() => {
-                self.fuel.wrapping_add(next - end)
-            }
-            _ => 0,
-        };
     }
 
     /// Continues after a back reference, whose target was printed.
     #[cfg_attr(not(debug_assertions), inline(always))]
     pub(super) fn after_backref(&mut self) -> Continuation {
         let after = self.state.lifetimes as usize;
-        self.give_back_fuel(after);
+        let end = self.place();
+        self.fuel.leave(end, after, self.source.symbol.len());
         self.state.place = Some(after);
         Continuation::End
     }

@@ -2,6 +2,7 @@
 //! Continuations of the bindings of a dyn trait path.
 
 use crate::demangle_v0::parser::machine::Parser;
+use crate::demangle_v0::parser::names::has_encoded_name;
 use crate::demangle_v0::parser::{Continuation, StepError};
 use crate::demangle_v0_tokens::fixed_texts::FixedText;
 use crate::demangle_v0_tokens::output::Output;
@@ -69,6 +70,7 @@ impl Parser<'_, '_> {
         match self.token_at(TokenKind::BindingName, output) {
             TokenOutcome::Parsed(name, next) => {
                 self.state.place = next;
+                self.fuel.use_up_if(has_encoded_name(&name));
                 self.emit(&name, output)?;
                 Ok(Continuation::BindingValue)
             }

@@ -9,9 +9,11 @@ use crate::demangle_v0_tokens::tags::{ConstantKind, constant_kind};
 use crate::demangle_v0_tokens::token::TokenKind;
 
 impl Parser<'_, '_> {
-    /// Reads and prints a string, with which the constant ends.
+    /// Reads and prints a string, with which the constant ends. It leaves no fuel, because its
+    /// characters are slow to print.
     #[inline(never)]
     pub(super) fn literal<V: Output>(&mut self, output: &mut V) -> Result<Continuation, StepError> {
+        self.fuel.use_up();
         self.end_with_token(TokenKind::StrLiteral, output)
     }
 

@@ -1,6 +1,7 @@
 // Made from crates/demangle_v0/src/parser/machine.rt by packaging/crate/erase.py: edit that file instead.
 //! The parser, and the methods that the productions share.
 
+use crate::demangle_v0::fuel::Fuel;
 use crate::demangle_v0::parser::frames::{Frame, FrameStack, PackedFrame};
 use crate::demangle_v0::parser::{Continuation, State, StepError};
 
@@ -13,8 +14,8 @@ pub struct Parser<'m, 'f> {
     pub source: Source<'m>,
     pub state: State,
     pub stack: FrameStack<'f>,
-    /// What is left of the budget for accepting a symbol. No other parse tests it.
-    pub fuel: usize,
+    /// The budget for accepting a symbol. No other parse has fuel.
+    pub fuel: Fuel,
     pub continuation: Continuation,
 }
 
@@ -27,7 +28,7 @@ impl<'m, 'f> Parser<'m, 'f> {
             continuation: Continuation::Path,
             state: State::at_path(place),
             stack: FrameStack::new(memory),
-            fuel: 0,
+            fuel: Fuel::none(),
         }
     }
 

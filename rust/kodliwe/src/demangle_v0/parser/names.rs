@@ -12,7 +12,22 @@ use crate::demangle_v0_tokens::token::Token;
 /// Returns `true` if the names of a namespace are printed with their disambiguators.
 #[cfg_attr(not(debug_assertions), inline(always))]
 fn is_special(namespace: u8) -> bool {
-    matches!(namespace, b'A'..=b'Z')
+    namespace.is_ascii_uppercase()
+}
+
+/// Returns whether a name is in Punycode, whose decoding is slow.
+#[cfg_attr(not(debug_assertions), inline(always))]
+fn is_encoded(name: &Ident) -> bool {
+    name.punycode.from != name.punycode.to
+}
+
+/// Returns whether a token is the name of a field or of an associated type, and in Punycode.
+#[cfg_attr(not(debug_assertions), inline(always))]
+pub(super) fn has_encoded_name(token: &Token) -> bool {
+    match token {
+        Token::FieldName(name) | Token::BindingName(name) => is_encoded(name),
+        _ => false,
+    }
 }
 
 /// Reads a name after its disambiguator. Returns the name, the disambiguator and the place after
@@ -42,6 +57,7 @@ impl Parser<'_, '_> {
         let (name, number, next) = named.ok_or(StepError::Abort(FixedText::Invalid))?;
         self.state.place = Some(next);
         self.state.is_bracket_open = false;
+        self.fuel.use_up_if(is_encoded(&name));
         self.emit(&Token::CrateName(name, number), output)?;
         Ok(Continuation::End)
     }
@@ -74,6 +90,7 @@ impl Parser<'_, '_> {
         let (ident, number, next) = named.ok_or(StepError::Abort(FixedText::Invalid))?;
         self.state.place = Some(next);
         self.state.is_bracket_open = false;
+        self.fuel.use_up_if(is_encoded(&ident));
         let name = Token::NestedName(self.state.letter, number, ident);
         self.emit(&name, output)?;
         Ok(Continuation::End)

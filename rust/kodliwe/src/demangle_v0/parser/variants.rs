@@ -2,6 +2,7 @@
 //! Continuations of variants and of their fields.
 
 use crate::demangle_v0::parser::machine::Parser;
+use crate::demangle_v0::parser::names::has_encoded_name;
 use crate::demangle_v0::parser::{Continuation, StepError};
 use crate::demangle_v0_tokens::fixed_texts::FixedText;
 use crate::demangle_v0_tokens::output::Output;
@@ -57,6 +58,7 @@ impl Parser<'_, '_> {
         match self.token_at(TokenKind::FieldName, output) {
             TokenOutcome::Parsed(token, next) => {
                 self.state.place = next;
+                self.fuel.use_up_if(has_encoded_name(&token));
                 self.emit(&token, output)?;
                 Ok(Continuation::FieldColon)
             }

@@ -181,7 +181,7 @@ fn texts_are_written_in_a_format() -> Result<(), Fail> {
         let mut memory = [0u8; 256];
         let len = demangle_slice_formatted(TEXT, &mut memory, format);
         assert_eq!(len, Some(wanted.len()), "in memory");
-        assert_eq!(&memory[..wanted.len()], wanted, "in memory");
+        assert_eq!(memory.get(..wanted.len()), Some(wanted), "in memory");
     }
     Ok(())
 }

@@ -11,7 +11,11 @@ fn optional(text: &str, tag: u8) -> Result<(u64, usize), ParseError> {
 }
 
 fn disambiguator(text: &str) -> Result<(u64, usize), ParseError> {
-    Symbol::new(text).disambiguator(0)
+    Symbol::new(text).disambiguator_if(true, 0)
+}
+
+fn unneeded_disambiguator(text: &str) -> Result<(u64, usize), ParseError> {
+    Symbol::new(text).disambiguator_if(false, 0)
 }
 
 fn after_disambiguator(text: &str) -> Result<usize, ParseError> {
@@ -69,6 +73,18 @@ fn disambiguators() {
         Ok((18446744073709551615, 13))
     );
     assert_eq!(disambiguator("slYGhA16ahye_"), Err(ParseError::Invalid));
+}
+
+#[test]
+fn unneeded_disambiguators() {
+    assert_eq!(unneeded_disambiguator("x"), Ok((0, 0)));
+    assert_eq!(unneeded_disambiguator("s_"), Ok((0, 2)));
+    assert_eq!(unneeded_disambiguator("slYGhA16ahyd_"), Ok((0, 13)));
+    assert_eq!(
+        unneeded_disambiguator("slYGhA16ahye_"),
+        Err(ParseError::Invalid)
+    );
+    assert_eq!(unneeded_disambiguator("s"), Err(ParseError::Invalid));
 }
 
 #[test]

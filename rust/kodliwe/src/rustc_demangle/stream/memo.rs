@@ -97,7 +97,7 @@ fn print_first(run: &str, held: &mut PieceBuffer, format: Format) -> bool {
     held.clear();
     let mut sink = BufferSink::new(held);
     if starts_as_v0(run.as_bytes()) {
-        print_v0_run(run, &mut sink, format, format.limit)
+        print_v0_run(run, &mut sink, format)
     } else {
         print_legacy_run(run, &mut sink, format)
     }

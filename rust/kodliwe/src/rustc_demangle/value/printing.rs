@@ -114,19 +114,32 @@ impl Demangle<'_> {
     }
 }
 
+/// What the path of a run that is printed at once may have in bytes for each byte of the run, and
+/// beyond that. Few paths have more. A short run may bring any number of lifetimes into scope, or
+/// print the target of a reference again and again.
+const TIMES_RUN: usize = 4;
+
+const MORE_TEXT: usize = 64;
+
+/// Returns the most bytes of the path of a run that is printed at once.
+#[cfg_attr(not(debug_assertions), inline(always))]
+fn text_limit(run: &str, format: Format) -> usize {
+    let most = run
+        .len()
+        .saturating_mul(TIMES_RUN)
+        .saturating_add(MORE_TEXT);
+    format.limit.min(most)
+}
+
 /// Prints a run that is a v0 symbol, in one pass over its first path. A run is ASCII.
 ///
 /// Returns `false` if the run is not a v0 symbol, as `demangle_v0::demangle_printed` does, or if the
-/// path has more than `limit` bytes. Then an unknown part of the symbol may be in the sink, and
+/// path is much longer than the run. Then an unknown part of the symbol may be in the sink, and
 /// `Demangle::read_run` says what the run is.
 #[inline(never)]
-pub(crate) fn print_v0_run<S: TextSink>(
-    run: &str,
-    out: &mut S,
-    format: Format,
-    limit: usize,
-) -> bool {
+pub(crate) fn print_v0_run<S: TextSink>(run: &str, out: &mut S, format: Format) -> bool {
     let text = without_thin_lto(run);
+    let limit = text_limit(run, format);
     let mut limited = SizeLimitedFmtAdapter::new(out, limit);
     let read = crate::demangle_v0::demangle_printed(text, &mut limited, format.form());
     let Some((_, suffix)) = read else {

@@ -51,8 +51,8 @@ returns-then-is_allowed-clause-took g c = λ is.
     (prints_cut_all g.S.TextSink c.new-limited.result printed _ _ _ _ (Ok tt) c.new-limited.ensures.text c.new-limited.ensures.left prints (prints.open_ refl) (search rules))
     refl c.put_piece.ensures in
     let took = puts_text g.S.TextSink c.args.out.now c.put_piece.new.out _ put laws.took_nothing laws.took_joined both in
-    let within : size (path_texts c.in-Some.field-0-0 (form_of c.args.format)) ≤ c.args.limit = omega (arith, prints.within refl, c.new-limited.ensures.left) in
-    let limited = same_cut (path_texts c.in-Some.field-0-0 (form_of c.args.format)) c.args.limit c.args.format.limit within c.requires.lower in
+    let within : size (path_texts c.in-Some.field-0-0 (form_of c.args.format)) ≤ c.text_limit-limit.result = omega (arith, prints.within refl, c.new-limited.ensures.left) in
+    let limited = same_cut (path_texts c.in-Some.field-0-0 (form_of c.args.format)) c.text_limit-limit.result c.args.format.limit within c.text_limit-limit.ensures in
     let whole = v0_replaced c.args.run.now c.without_thin_lto-text.result.now c.in-Some.field-0-0 suffix c.args.format c.without_thin_lto-text.ensures c.in-Some.ensures.some (sym c.if-is_allowed.ensures.allowed) in
     let text = ap (λ (pieces : List (List ℕ)). concat (pieces ++ suffix ∷ [])) limited ∙ whole in
     subst (λ t. g.S.TextSink.took c.args.out.now t c.put_piece.new.out) text (when_ok put (sym c.is_ok.ensures.value ∙ is) took)

@@ -1,6 +1,8 @@
-use Rattle.std.proofs.Common.{arith, refl}
+use Rattle.std.proofs.Common.{arith, refl, ap}
+use Rattle.demangle_v0.specs.Parsers.{all_of}
 use Rattle.demangle_v0.specs.Traces.{trace_at}
 use Rattle.demangle_v0.specs.declared.parser.Continuation.TheVariants as continuation
+use Rattle.demangle_v0.specs.declared.parser.machine.Parser.{Parser}
 use Rattle.demangle_v0_tokens.specs.declared.token.TokenKind.TheVariants as token_kind
 use Rattle.demangle_v0.proofs.StepErrors.{stops}
 use Rattle.demangle_v0.proofs.DynTraitSteps.{after_name}
@@ -47,4 +49,5 @@ returns-in_ok-emit-in-Parsed-clause-paced g c =
     let m = c.args.self.now in
     let e = c.in_ok-emit-in-Parsed.ensures in
     let pace = token_paced m.source.symbol.now token_kind.BindingName m.state.letter g.V.Output.is_printed m.state.lifetimes m.state.place c.in-Parsed.name c.in-Parsed.next c.in-Parsed.ensures.value in
-    rw (e.parser, c.token_at.ensures.parser) (λ _ _. omega (arith, c.in-Parsed.ensures.looks, e.most, pace))
+    let fuel = ap (λ (k : Parser). all_of k.fuel) c.token_at.ensures.parser in
+    rw e.parser (λ _ some. omega (arith, c.in-Parsed.ensures.looks, e.most, pace, fuel, ap all_of (c.use_up_if.ensures.kept some)))

@@ -26,16 +26,16 @@ returns-then-not-is_printing-clause-performs g c = λ closed k value unit. recor
 }
 
 pub returns-else-not-is_printing-clause-performs : goal.returns-else-not-is_printing-clause-performs
-returns-else-not-is_printing-clause-performs g c = λ closed k value unit. rw c.use_fuel.ensures.parser (record {
+returns-else-not-is_printing-clause-performs g c = λ closed k value unit. record {
   does = target_shown c.args.unit closed k value c.in-Target.target c.in-Target.next unit c.in-Target.ensures.value
       (record { grows = omega arith; within = omega (arith, c.in-Target.ensures.looks) }) (sym c.is_printing.ensures
       ∙ c.if-not-is_printing.false) c.in-Target.ensures.deep (omega arith) c.requires.can_step
       (ap (λ (s : Stack). s.frames) (rw c.frame-frame.ensures at c.push.ensures.pushed (omega arith)));
   same = (refl, refl, c.push.ensures.room);
-})
+}
 
-pub overflow_sub-next : goal.overflow_sub-next
-overflow_sub-next g c =
+pub enter-requires : goal.enter-requires
+enter-requires g c =
     let m = c.args.self.now in
     let r = refers m.source.symbol.now m.state.depth_left m.state.place c.in-Target.target c.in-Target.next c.in-Target.ensures.value in
     omega (arith, r.back)
@@ -50,4 +50,4 @@ pub returns-else-not-is_printing-clause-paced : goal.returns-else-not-is_printin
 returns-else-not-is_printing-clause-paced g c =
     let m = c.args.self.now in
     let r = refers m.source.symbol.now m.state.depth_left m.state.place c.in-Target.target c.in-Target.next c.in-Target.ensures.value in
-    λ _. rw c.use_fuel.ensures.parser (λ some. omega (arith, c.in-Target.ensures.looks, r.back, r.within, r.slow, c.use_fuel.ensures.used some))
+    λ _ some. omega (arith, c.in-Target.ensures.looks, r.back, r.within, r.slow, c.enter.ensures.paid some)

@@ -1,5 +1,5 @@
 use Rattle.std.proofs.Common.{◌≡◌, length, ap, arith, refl}
-use Rattle.demangle_v0.specs.Parsers.{left_at}
+use Rattle.demangle_v0.specs.Parsers.{all_of, left_at}
 use Rattle.demangle_v0.specs.Traces.{trace_at}
 use Rattle.demangle_v0.specs.declared.parser.Continuation.TheVariants as continuation
 use Rattle.demangle_v0_tokens.specs.declared.token.TokenKind.TheVariants as token_kind
@@ -124,7 +124,7 @@ returns-then-has_no_qualifiers-clause-paced g c =
     let m = c.args.self.now in
     let pace = token_paced m.source.symbol.now token_kind.FunctionQualifiers m.state.letter g.V.Output.is_printed m.state.lifetimes m.state.place c.in-Parsed.head c.in-Parsed.next c.in-Parsed.ensures.value in
     let same : c.token_at.new.self.source.symbol.now ≡ m.source.symbol.now = ap (λ k. k.source.symbol.now) c.token_at.ensures.parser in
-    let fuel : c.token_at.new.self.fuel ≡ m.fuel = ap (λ k. k.fuel) c.token_at.ensures.parser in
+    let fuel = ap (λ k. all_of k.fuel) c.token_at.ensures.parser in
     let before = ap (λ b. left_at (length b) c.in-Parsed.next) same in
     let after = ap (λ b. left_at (length b) c.queue_text.new.self.state.place) same in
     λ _ some. omega (arith, c.in-Parsed.ensures.looks, pace, fuel, before, after, c.queue_text.ensures.paced some)

@@ -1,7 +1,8 @@
-use Rattle.std.proofs.Common.{◌≡◌, ◌+◌, ◌-◌, ◌<◌, Bool, true, not, ◌||◌, Some, None, Result, Ok, Err, IsOk, IsErr, false, length, arith, refl, sym, ap, ◌∙◌, length-append}
+use Rattle.std.proofs.Common.{◌≡◌, ◌+◌, ◌-◌, ◌<◌, Bool, true, not, ◌||◌, Some, None, Result, Ok, Err, IsOk, IsErr, false, length, arith, refl, sym, subst, ap, ◌∙◌, length-append}
 use Rattle.std.proofs.lemmas.Bool.{false≢true, leb-false}
 use Rattle.demangle_symbol.specs.Primitives.{byte_at, namespace_at, is_upper}
 use Rattle.demangle_v0_tokens.specs.declared.fixed_texts.FixedText.TheVariants as fixed
+use Rattle.demangle_v0.specs.Parsers.{all_of}
 use Rattle.demangle_v0.specs.StepRuns.{name_frames}
 use Rattle.demangle_v0.specs.Traces.{trace_at}
 use Rattle.demangle_v0.specs.declared.parser.Continuation.{Continuation}
@@ -9,6 +10,7 @@ use Rattle.demangle_v0.specs.declared.parser.Continuation.TheVariants as continu
 use Rattle.demangle_v0.specs.declared.parser.StepError.{StepError}
 use Rattle.demangle_v0.specs.declared.parser.StepError.TheVariants.{Abort}
 use Rattle.demangle_v0.specs.declared.parser.frames.Frame.{Frame}
+use Rattle.demangle_v0.specs.declared.fuel.Fuel.{Fuel}
 use Rattle.demangle_v0.specs.declared.parser.machine.Parser.{Parser}
 use Rattle.demangle_v0.proofs.Pace.{place_left}
 use Rattle.demangle_v0.proofs.StepErrors.{stops}
@@ -81,7 +83,10 @@ returns-then-tag-eq67-clause-paced g c = λ ok.
     let source = ap (λ (z : Parser). z.source) placed in
     let first = (rw c.paths.invariant.parser at c.crate_name-performed.ensures.reads) (c.names_after.ensures.inner ok) in
     let others = (rw source at c.names_after.ensures.reads) ok in
-    λ _. omega (arith, first, others, c.paths.invariant.pace, c.tag.ensures.look, rw c.paths.invariant.parser at c.in-Ok.ensures.within, c.names_after.ensures.fuel, ap (λ (z : Parser). z.fuel) placed, ap (λ (z : Parser). z.looks) c.paths.invariant.parser)
+    λ some.
+    let after = c.names_after.ensures.fuel some in
+    let before = c.crate_name-performed.ensures.fuel (subst (λ (f : Fuel). 0 < f.left) after some) in
+    omega (arith, first, others, c.paths.invariant.pace, c.tag.ensures.look, rw c.paths.invariant.parser at c.in-Ok.ensures.within, ap all_of after, ap all_of before, ap (λ (z : Parser). all_of z.fuel) c.paths.invariant.parser, ap (λ (z : Parser). z.looks) c.paths.invariant.parser)
 
 either_result : {X : Type 0} (r : Result Continuation StepError) → (IsOk r → X) → (IsErr r → X) → X
 either_result (Ok p) f g = f refl

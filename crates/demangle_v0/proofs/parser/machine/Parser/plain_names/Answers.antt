@@ -1,10 +1,15 @@
-use Rattle.std.proofs.Common.{◌≡◌, ◌+◌, ◌-◌, Ok, None, arith, refl, sym, ap, ◌∙◌}
+use Rattle.std.proofs.Common.{◌≡◌, ◌+◌, ◌-◌, ◌<◌, Ok, None, arith, refl, sym, subst, ap, ◌∙◌}
 use Rattle.demangle_v0.specs.Frames.{Stack}
-use Rattle.demangle_v0.specs.Parsers.{Performed}
+use Rattle.demangle_v0.specs.Parsers.{KeepsFuel, Performed}
 use Rattle.demangle_v0.specs.declared.parser.Continuation.TheVariants as continuation
+use Rattle.demangle_v0.specs.declared.fuel.Fuel.{Fuel}
 use Rattle.demangle_v0.specs.declared.parser.machine.Parser.{Parser}
 use Rattle.demangle_v0.proofs.NestedNames.{named, named_runs, named_stops, named_ends}
 use Rattle.demangle_v0.proofs.parser.machine.Parser.plain_names.Goals as goal
+
+-- the fuel after a further name
+keeps_on : (m k n : Parser) → KeepsFuel m k → KeepsFuel k n → KeepsFuel m n
+keeps_on m k n p q some = let e = q some in e ∙ p (subst (λ (f : Fuel). 0 < f.left) e some)
 
 pub returns-in-Err-clause-end : goal.returns-in-Err-clause-end
 returns-in-Err-clause-end g c p before x below =
@@ -15,7 +20,7 @@ returns-in-Err-clause-end g c p before x below =
     (rw c.in-Err.is at c.nested_name.ensures.performs) (rw one at (c.names.invariant.ran p before x))
 
 pub returns-in-Err-clause-fuel : goal.returns-in-Err-clause-fuel
-returns-in-Err-clause-fuel g c = rw c.push_names.ensures (ap (λ (z : Parser). z.fuel) c.nested_name.ensures.placed ∙ c.names.invariant.fuel)
+returns-in-Err-clause-fuel g c = rw c.push_names.ensures (keeps_on c.args.self.now c.names.self c.nested_name.new.self c.names.invariant.fuel c.nested_name.ensures.fuel)
 
 pub returns-in-Err-clause-most : goal.returns-in-Err-clause-most
 returns-in-Err-clause-most g c = rw c.push_names.ensures (omega (arith, rw c.names.invariant.source at c.nested_name.ensures.most, c.names.invariant.reads, c.names.invariant.bound))
@@ -37,7 +42,7 @@ names-preserved g c =
       lifetimes = ap (λ (z : Parser). z.state.lifetimes) placed ∙ c.names.invariant.lifetimes;
       no_pending_text = no_text;
       grows = omega (arith, c.names.invariant.grows, performs.does.grows);
-      fuel = ap (λ (z : Parser). z.fuel) placed ∙ c.names.invariant.fuel;
+      fuel = keeps_on c.args.self.now k n c.names.invariant.fuel c.nested_name.ensures.fuel;
       reads = omega (arith, rw c.names.invariant.source at ((rw ends at c.nested_name.ensures.reads) refl), c.names.invariant.reads, c.names.invariant.bound);
       ready = performs.does.ready c.names.invariant.ready refl;
       ran = λ p before x. named_runs g.V.Output c.args.self.now k n c.names.output c.nested_name.new.output c.args.outer left p before c.names.invariant.source c.nested_name.ensures.placed no_text performs (rw one at (c.names.invariant.ran p before x));

@@ -1,6 +1,7 @@
-use Rattle.std.specs.Prelude.{◌%◌, ◌^◌, ◌*◌}
-use Rattle.std.proofs.Common.{◌≡◌, ◌≤◌, ◌<◌, ◌+◌, ℕ, Ok, Some, length, true, false, arith, refl, sym, ap, ◌∙◌}
-use Rattle.demangle_v0.specs.Parsers.{Same, left_at}
+use Rattle.std.specs.Prelude.{◌*◌}
+use Rattle.std.proofs.Common.{◌≡◌, ◌≤◌, ◌<◌, ◌+◌, ℕ, Ok, Some, length, true, false, arith, refl, sym, subst, ap, ◌∙◌}
+use Rattle.demangle_v0.specs.Parsers.{Same, all_of, left_at}
+use Rattle.demangle_v0.specs.declared.fuel.Fuel.{Fuel}
 use Rattle.demangle_v0.specs.Loops.{printing}
 use Rattle.demangle_v0.proofs.Parsers.{left_as}
 use Rattle.demangle_v0.proofs.LoopLemmas.{valid_resumes, resumes_length, first_resumes, ran_then, ran_resumes}
@@ -10,10 +11,6 @@ use Rattle.demangle_v0.proofs.Pace.{own_left}
 use Rattle.demangle_v0.proofs.SkipPace.{resumed_place}
 use Rattle.demangle_v0.proofs.ImplPathSteps.{skip_unread, skipped_valid, skipped_less, skips_valid}
 use Rattle.demangle_v0.proofs.parser.machine.Parser.print_steps.Goals as goal
-
--- the fuel after a step
-fuel_left : (left fuel : ℕ) → (left + 5) % 2 ^ 64 ≡ fuel → left < 2 ^ 64 → 5 ≤ fuel → left + 5 ≡ fuel
-fuel_left left fuel e small enough = omega arith
 
 pub skip_for_fuel-requires : goal.skip_for_fuel-requires
 skip_for_fuel-requires g c = record { skipped = sym c.is_skipped.ensures ∙ c.if-is_skipped.true; valid = valid_resumes c.steps.invariant.valid c.in-Some.ensures.some }
@@ -37,8 +34,9 @@ steps-preserved-then-is_skipped g c =
     let same : Same c.args.self.now c.resume.new.self = (c.in-Some.ensures.same.0 ∙ c.steps.invariant.same.0, c.in-Some.ensures.same.1 ∙ c.steps.invariant.same.1, c.in-Some.ensures.same.2 ∙ c.steps.invariant.same.2) in
     let skips = rw same.1 at (sym c.is_skipped.ensures ∙ c.if-is_skipped.true) in
     let z = rw (same.0, same.1, c.in-Some.ensures.looks) at (rw c.in_default-2.is at c.in_ok-left.ensures.over) in
-    let enough : (b : c.args.has_budget ≡ true) → 5 ≤ c.resume.new.self.fuel = λ b. rw (c.ends.ensures.paid c.if-ends.false b) at c.overflowing_sub-fuel.ensures.overflow in
-    let spent = λ (b : c.args.has_budget ≡ true). fuel_left c.overflowing_sub-fuel.result.0 c.resume.new.self.fuel c.overflowing_sub-fuel.ensures.value (omega (arith, c.overflowing_sub-fuel.type_inv)) (enough b) in
+    let kept = c.in-Some.ensures.fuel in
+    let before = λ (b : c.args.has_budget ≡ true). c.steps.invariant.paced b (subst (λ (f : Fuel). 0 < f.left) kept (c.pay_step.ensures.some c.if-not-pay_step.false b)) in
+    let paid = λ (b : c.args.has_budget ≡ true). c.pay_step.ensures.paid c.if-not-pay_step.false b in
     let at = ap (left_at (length c.args.self.now.source.symbol.now)) (resumed_place c.in-Some.ensures.some) in
     let pace = rw same.0 at c.in_ok-left.ensures.paced in
     record {
@@ -48,8 +46,8 @@ steps-preserved-then-is_skipped g c =
       same = (c.in_ok-left.ensures.same.0 ∙ same.0, c.in_ok-left.ensures.same.1 ∙ same.1, c.in_ok-left.ensures.same.2 ∙ same.2);
       grows = omega (arith, c.steps.invariant.grows, c.in-Some.ensures.looks, c.in_ok-left.ensures.grows);
       least = omega (arith, c.steps.invariant.least, c.in-Some.ensures.looks, c.in_ok-left.ensures.grows, first_resumes c.in-Some.ensures.some, skip_unread c.args.self.now.source.form _ c.resume.new.self.state skips);
-      paced = λ b h. omega (arith, pace b h, c.steps.invariant.paced b (omega (arith, c.in-Some.ensures.fuel, enough b)), c.in-Some.ensures.looks, c.in-Some.ensures.fuel, spent b, at);
-      most = λ b. omega (arith, rw same.0 at c.in_ok-left.ensures.most b, c.steps.invariant.paced b (omega (arith, c.in-Some.ensures.fuel, enough b)), c.in-Some.ensures.looks, c.in-Some.ensures.fuel, spent b, at);
+      paced = λ b h. omega (arith, pace b h, before b, c.in-Some.ensures.looks, ap all_of kept, paid b, at);
+      most = λ b. omega (arith, rw same.0 at c.in_ok-left.ensures.most b, before b, c.in-Some.ensures.looks, ap all_of kept, paid b, at);
     }
 
 pub steps-requires : goal.steps-requires
@@ -81,8 +79,9 @@ pub steps-preserved : goal.steps-preserved
 steps-preserved g c =
     let same : Same c.args.self.now c.resume.new.self = (c.in-Some.ensures.same.0 ∙ c.steps.invariant.same.0, c.in-Some.ensures.same.1 ∙ c.steps.invariant.same.1, c.in-Some.ensures.same.2 ∙ c.steps.invariant.same.2) in
     let d = steps_as (printing g.S.TextSink c.args.self.now.source.symbol.now c.args.self.now.source.form).output c.args.self.now c.resume.new.self (c.in-Some.ensures.same.0 ∙ c.steps.invariant.same.0, c.in-Some.ensures.same.1 ∙ c.steps.invariant.same.1, c.in-Some.ensures.same.2 ∙ c.steps.invariant.same.2) c.in_ok-continuation.ensures.stepped in
-    let enough : (b : c.args.has_budget ≡ true) → 5 ≤ c.resume.new.self.fuel = λ b. rw (c.ends.ensures.paid c.if-ends.false b) at c.overflowing_sub-fuel.ensures.overflow in
-    let spent = λ (b : c.args.has_budget ≡ true). fuel_left c.overflowing_sub-fuel.result.0 c.resume.new.self.fuel c.overflowing_sub-fuel.ensures.value (omega (arith, c.overflowing_sub-fuel.type_inv)) (enough b) in
+    let kept = c.in-Some.ensures.fuel in
+    let before = λ (b : c.args.has_budget ≡ true). c.steps.invariant.paced b (subst (λ (f : Fuel). 0 < f.left) kept (c.pay_step.ensures.some c.if-not-pay_step.false b)) in
+    let paid = λ (b : c.args.has_budget ≡ true). c.pay_step.ensures.paid c.if-not-pay_step.false b in
     let at = ap (left_at (length c.args.self.now.source.symbol.now)) (resumed_place c.in-Some.ensures.some) in
     let pace = rw same.0 at c.in_ok-continuation.ensures.paced refl in
     let own = own_left 20 c.args.self.now.source.symbol.now c.resume.new.self.state.place in
@@ -94,6 +93,6 @@ steps-preserved g c =
       same = (c.in_ok-continuation.ensures.same.0 ∙ same.0, c.in_ok-continuation.ensures.same.1 ∙ same.1, c.in_ok-continuation.ensures.same.2 ∙ same.2);
       grows = omega (arith, c.steps.invariant.grows, c.in-Some.ensures.looks, c.in_ok-continuation.ensures.grows);
       least = omega (arith, c.steps.invariant.least, c.in-Some.ensures.looks, c.in_ok-continuation.ensures.least, first_resumes c.in-Some.ensures.some);
-      paced = λ b h. omega (arith, pace h, c.steps.invariant.paced b (omega (arith, c.in-Some.ensures.fuel, enough b)), c.in-Some.ensures.looks, c.in-Some.ensures.fuel, spent b, at);
-      most = λ b. omega (arith, own, own_looks, c.steps.invariant.paced b (omega (arith, c.in-Some.ensures.fuel, enough b)), c.in-Some.ensures.looks, c.in-Some.ensures.fuel, spent b, at);
+      paced = λ b h. omega (arith, pace h, before b, c.in-Some.ensures.looks, ap all_of kept, paid b, at);
+      most = λ b. omega (arith, own, own_looks, before b, c.in-Some.ensures.looks, ap all_of kept, paid b, at);
     }

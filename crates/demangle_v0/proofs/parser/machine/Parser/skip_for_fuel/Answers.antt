@@ -28,8 +28,8 @@ returns-clause-paced c = λ b some.
     let m = c.args.self.now in
     let k = c.skip_impl_path.new.self in
     let p = place_in m.state.place (c.may_skip.ensures.known c.if-not-may_skip.false b) (c.may_skip.ensures.within c.if-not-may_skip.false b) in
-    let known = c.fuel_after-self.ensures.known some in
-    let from = place_in _ known.0 (c.fuel_after-self.ensures.paid some) in
+    let known = c.fuel_after-left.ensures.known some in
+    let from = place_in _ known.0 (c.fuel_after-left.ensures.paid some) in
     let to = place_in _ known.1 from.2 in
     let over = over_paced m k from.0 c.requires.skipped (sym c.place-start.ensures ∙ from.1) (rw (sym c.place-start.ensures ∙ from.1) at c.may_skip.ensures.within c.if-not-may_skip.false b) to.0 c.in_default.ensures.following (sym c.place.ensures ∙ to.1) in
     omega (arith, over.0, over.1, to.2)
