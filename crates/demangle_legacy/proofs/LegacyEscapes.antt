@@ -8,10 +8,10 @@ use Rattle.std.proofs.lemmas.Bool.Decides.{nat_tests}
 use Rattle.demangle_symbol.specs.Digits.{number, is_byte}
 use Rattle.demangle_symbol.proofs.Digits.{is_byte_there, number_more, number_none}
 use Rattle.demangle_symbol.proofs.Options.{option_cases, none_some}
-use Rattle.demangle_symbol.proofs.Ranges.{position_found, position_past, place_found, place_passed, place_past, all_more, all_fails, range_length, is_byte_not}
+use Rattle.demangle_symbol.proofs.Ranges.{position_found, position_past, place_found, place_passed, place_past, range_length, is_byte_not}
 use Rattle.demangle_legacy.specs.Unescaped.{is_dollar, is_lower_hex, lower_hex, escape_of_code, escape_of, leading_unit}
 use Rattle.demangle_legacy.proofs.LegacyElements.{bool_cases}
-use Rattle.demangle_legacy.proofs.LegacyUnits.{unit_escape, unit_open, name_none, name_comma, name_other, name_two, name_many, name_digits, digits_none, digits_other, digits_large, digits_done}
+use Rattle.demangle_legacy.proofs.LegacyUnits.{all_more, all_fails, unit_escape, unit_open, name_none, name_comma, name_other, name_two, name_many, name_digits, digits_none, digits_other, digits_large, digits_done}
 
 -- a byte that is no `$`
 pub no_dollar : (b : ℕ) → b ≢ 36 → is_dollar b ≡ false

@@ -9,7 +9,17 @@ use Rattle.std.proofs.lemmas.Bool.Decides.{nat_tests}
 use Rattle.demangle_symbol.specs.Digits.{number, is_byte}
 use Rattle.demangle_legacy.specs.Unescaped.{is_dollar, is_special, is_lower_hex, lower_hex, escape_of_code, escape_of_digits, escape_of, leading_unit, pieces_from, unescaped, is_hash}
 use Rattle.demangle_symbol.proofs.Digits.{is_byte_there, number_part, number_more}
-use Rattle.demangle_symbol.proofs.Ranges.{is_byte_not, range_first, range_past, range_length, range_drop, range_take, all_more, all_fails, all_past}
+use Rattle.demangle_symbol.proofs.Ranges.{is_byte_not, range_first, range_past, range_length, range_drop, range_take}
+
+-- all bytes of a part pass the test, or not
+pub all_more : (p : ℕ → Bool) (s : List ℕ) (k to b : ℕ) → k < to → slice_get s k ≡ Some b → p b ≡ true → list_all p (slice_range s k to) ≡ list_all p (slice_range s (k + 1) to)
+all_more p s k to b lt here passes = ap (list_all p) (range_first s k to b lt here) ∙ ap (λ t. t && list_all p (slice_range s (k + 1) to)) passes
+
+pub all_fails : (p : ℕ → Bool) (s : List ℕ) (k to b : ℕ) → k < to → slice_get s k ≡ Some b → p b ≡ false → list_all p (slice_range s k to) ≡ false
+all_fails p s k to b lt here fails = ap (list_all p) (range_first s k to b lt here) ∙ ap (λ t. t && list_all p (slice_range s (k + 1) to)) fails
+
+pub all_past : (p : ℕ → Bool) (s : List ℕ) (k to : ℕ) → to ≤ k → list_all p (slice_range s k to) ≡ true
+all_past p s k to past = ap (list_all p) (range_past s k to past)
 
 -- the hash
 

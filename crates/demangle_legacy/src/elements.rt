@@ -54,6 +54,7 @@ fn length_at(symbol: &Symbol<'_>, at: usize, looks: &mut Looks) -> Option<(usize
 
 /// Returns the element whose length is spelled at a place. Returns `None` if there is no length, or
 /// if the element would end after the symbol.
+#[inline(always)]
 pub(super) fn element_at(symbol: &Symbol<'_>, at: usize, looks: &mut Looks) -> Option<Part>
     requires { at ≤ length symbol.now }
     ensures element { option_map

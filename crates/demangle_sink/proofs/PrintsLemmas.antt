@@ -30,26 +30,6 @@ prints_put sink old s result new same h left here hands =
       hands = rw (fit, here) hands;
     }
 
--- a piece that exceeds the limit is not passed to the sink
-pub prints_over : {S : Type 0} (sink : Ghosts S) (old : SizeLimitedFmtAdapter S) (s : List ℕ) (result : Result (Unit {0}) SinkRefused) (new : SizeLimitedFmtAdapter S)
-    → new.out ≡ old.out
-    → old.remaining < length s
-    → new.is_limit_reached ≡ true
-    → IsErr result
-    → sink.failed old.out.now ≡ false
-    → Prints sink old (s ∷ []) result new
-prints_over sink old s (Ok u) new same h over err not_failed = absurd (false≢true err)
-prints_over sink old s (Err u) new same h over err not_failed =
-    let fit : prefix_within (s ∷ []) old.remaining ≡ [] = fitting-none s old.remaining h in
-    record {
-      same_sink = ap (λ r. r.ghost_name) same;
-      open_ = λ e. absurd (false≢true e);
-      within = λ e. absurd (false≢true e);
-      left = λ e. absurd (false≢true e);
-      past = λ e. omega arith;
-      hands = rw (fit, over, same) (puts_nothing sink old.out.now not_failed);
-    }
-
 -- after an Ok the next piece may be put
 pub prints_ready : {S : Type 0} (sink : Ghosts S) (old : SizeLimitedFmtAdapter S) (xs : List (List ℕ)) (r : Result (Unit {0}) SinkRefused) (new : SizeLimitedFmtAdapter S)
     → Prints sink old xs r new → IsOk r → Ready sink new

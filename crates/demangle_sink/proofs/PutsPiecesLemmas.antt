@@ -147,11 +147,6 @@ pub puts_text : {S : Type 0} (sink : Ghosts S) (old new : S) (list : List (List 
 puts_text sink old new list (Ok u) nothing joined h = folds-took sink.took nothing joined list old new (h.all refl).took
 puts_text sink old new list (Err e) nothing joined h = tt
 
-pub puts_refused : {S : Type 0} (sink : Ghosts S) (old new : S) (list : List (List ℕ)) (result : Result (Unit {0}) SinkRefused)
-    → PutsPieces sink old list result new → OnErr result (FailedWithin sink old list new)
-puts_refused sink old new list (Ok u) h = tt
-puts_refused sink old new list (Err e) h = h.refused refl
-
 -- a list within the room is taken
 pub puts_fits : {S : Type 0} (sink : Ghosts S) (old new : S) (list : List (List ℕ)) (result : Result (Unit {0}) SinkRefused)
     → PutsPieces sink old list result new → IsWithin (size list) (sink.room old) → IsOk result

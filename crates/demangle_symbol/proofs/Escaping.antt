@@ -36,9 +36,3 @@ literal_pieces quote cs = map-append encode_utf8 (quote ∷ flat_map (literal_es
 pub literal_one : (quote c : ℕ) → literal quote (c ∷ []) ≡ encode_utf8 quote ∷ (map encode_utf8 (literal_escape quote c) ++ encode_utf8 quote ∷ [])
 literal_one quote c =
     literal_pieces quote (c ∷ []) ∙ ap (λ x. encode_utf8 quote ∷ (map encode_utf8 x ++ encode_utf8 quote ∷ [])) (append-nil (literal_escape quote c))
-
--- a digit before those that are at the end
-pub digit_before : (text : List ℕ) (at x g : ℕ) → 0 < at → at ≤ length text → x ≡ g → drop (at - 1) (set text (at - 1) x) ≡ g ∷ drop at text
-digit_before text at x g some le e =
-    let next : at - 1 + 1 ≡ at = omega arith in
-    drop-set text (at - 1) x (omega arith) ∙ (λ t. e t ∷ drop (next t) text)

@@ -70,16 +70,4 @@ position_past p s from to n within le e =
       at_end : (xs : List ℕ) → position_or_len p xs ≡ n → length xs ≤ n → position p xs ≡ None
       at_end xs e lt = grind (arith, nat_tests)
 
--- all bytes of a part pass the test, or not
-pub all_more : (p : ℕ → Bool) (s : List ℕ) (k to b : ℕ) → k < to → slice_get s k ≡ Some b → p b ≡ true → list_all p (slice_range s k to) ≡ list_all p (slice_range s (k + 1) to)
-all_more p s k to b lt here passes = ap (list_all p) (range_first s k to b lt here) ∙ ap (λ t. t && list_all p (slice_range s (k + 1) to)) passes
-
-pub all_fails : (p : ℕ → Bool) (s : List ℕ) (k to b : ℕ) → k < to → slice_get s k ≡ Some b → p b ≡ false → list_all p (slice_range s k to) ≡ false
-all_fails p s k to b lt here fails = ap (list_all p) (range_first s k to b lt here) ∙ ap (λ t. t && list_all p (slice_range s (k + 1) to)) fails
-
-pub all_past : (p : ℕ → Bool) (s : List ℕ) (k to : ℕ) → to ≤ k → list_all p (slice_range s k to) ≡ true
-all_past p s k to past = ap (list_all p) (range_past s k to past)
-
 pub ruleset place_steps = (place_found, place_passed, place_past, position_found, position_past)
-
-pub ruleset all_steps = (all_more, all_fails, all_past)

@@ -1,4 +1,4 @@
-//! Access to the bytes of a symbol. Only `Symbol::byte` reads one, and it counts each look.
+//! Access to the bytes of a symbol. Each look at a byte is counted.
 ghost use Rattle.std.specs.Prelude.{◌≡◌, ℕ, [], ◌∷◌, ◌+◌, ◌-◌, ◌*◌, ◌<◌, ◌≤◌, length, slice_get, slice_range, ◌^◌, IfOk, OnErr, IfErr, IfSome, IfNone, SomeIff, IsTrue, ◌↔◌};
 ghost use Rattle.std.specs.Str.{IsAscii};
 ghost use Rattle.demangle_symbol.specs.Digits.{is_byte, run_end, Decimal, is_digit_10};

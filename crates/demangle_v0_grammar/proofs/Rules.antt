@@ -72,9 +72,6 @@ itself r = record { names = λ m k h. h; refers = λ h. h; inside = λ m k h. h 
 pub freely_laxest : (r : Rule) → IsLaxer r freely
 freely_laxest r = record { names = λ m k h. tt; refers = λ h. tt; inside = λ m k h. tt }
 
-pub named_laxer : IsLaxer named named_outside
-named_laxer = record { names = λ m k h. h; refers = λ h. tt; inside = λ m k h. tt }
-
 pub simply_outside : IsLaxer simple named_outside
 simply_outside = record { names = λ m k h. omega (arith, h); refers = λ h. absurd h; inside = λ m k h. tt }
 

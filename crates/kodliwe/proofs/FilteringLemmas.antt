@@ -119,11 +119,6 @@ pub wrote_end : (f : ByteBefore → List ℕ → List ℕ) (held rest old new : 
 wrote_end f None rest old new ended = tt
 wrote_end f (Some text) rest old new ended = ended.1
 
--- a new buffer has the contents of its reader
-pub same_remaining : (held : Option (List ℕ)) → prepend_known [] held ≡ held
-same_remaining None = refl
-same_remaining (Some text) = refl
-
 -- nothing of a text was filtered
 pub stopped_none : (f : ByteBefore → List ℕ → List ℕ) (held old : Option (List ℕ)) → IfSome held (λ text. BytesStopped (rewritten_by f zero) Memory (from_start text) old old)
 stopped_none f None old = tt
@@ -138,11 +133,6 @@ pub refused_same : (m n : Format) (fault : StreamFault) (pending : Unwritten) (l
     → IfSome left (λ text. BytesStopped (rewritten_after m) fault (followed_by pending text) old new)
     → IfSome left (λ text. BytesStopped (rewritten_after n) fault (followed_by pending text) old new)
 refused_same m n fault pending left old new same = subst (λ (v : Format). IfSome left (λ text. BytesStopped (rewritten_after v) fault (followed_by pending text) old new)) same
-
--- the contents of a reader, filtered with a memo of the same value
-pub reader_same : (m n : Format) (held old new : Option (List ℕ)) → m ≡ n → IfSome held (λ text. Appends old new (rewritten_in m text))
-    → IfSome held (λ text. Appends old new (rewritten_in n text))
-reader_same m n held old new same = subst (λ (v : Format). IfSome held (λ text. Appends old new (rewritten_in v text))) same
 
 pub stopped_same : (m n : Format) (fault : StreamFault) (held old new : Option (List ℕ)) → m ≡ n → IfSome held (λ text. BytesStopped (rewritten_after m) fault (from_start text) old new)
     → IfSome held (λ text. BytesStopped (rewritten_after n) fault (from_start text) old new)

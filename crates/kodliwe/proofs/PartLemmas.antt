@@ -80,12 +80,6 @@ printing_err NotUtf8 format all now first held old mid new inv e' stopped = stop
 printing_err (Write e) format all now first held old mid new inv e' stopped = tt
 printing_err Memory format all now first held old mid new inv e' stopped = stopped_in format all now first held old mid new inv e' stopped
 
-pub writing_run : (fault : StreamFault) (format : Format) (all : List (Option PartText)) (old new : Option (List ℕ)) → IsWriting fault → RunStopped fault format all old new
-writing_run (Read e) format all old new w = absurd w
-writing_run NotUtf8 format all old new w = absurd w
-writing_run (Write e) format all old new w = tt
-writing_run Memory format all old new w = absurd w
-
 -- an error that is not the writer's
 pub not_writing : (fault : StreamFault) (format : Format) (all : List (Option PartText)) (old new : Option (List ℕ)) → (IsWriting fault → ⊥) → RunStopped fault format all old new
     → WrotePrefix format all old new

@@ -32,16 +32,6 @@ abbrev pub part_of : {R : Type 0} → (R → Option (List ℕ)) → Part R → O
 part_of remaining (parts.Text input) = option_map text (remaining input.reader)
 part_of remaining (parts.Argument given) = Some (argument given.now)
 
--- the argument that a part or a source is
-abbrev pub part_argument : {R : Type 0} → Part R → Option (List ℕ)
-part_argument (parts.Text input) = None
-part_argument (parts.Argument given) = Some given.now
-
-abbrev pub source_argument : InputSource → Option (List ℕ)
-source_argument sources.Stdin = None
-source_argument (sources.File path) = None
-source_argument (sources.Symbol given) = Some given.now
-
 -- What an argument prints. If the whole argument is a symbol, that is the symbol. Otherwise it is filtered.
 abbrev pub argument_in : Format → List ℕ → List ℕ
 argument_in format given = option_map_or (λ _. concat (handed_in (stripped given) format)) (pieces_in (form_of format) (stripped given))

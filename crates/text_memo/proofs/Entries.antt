@@ -1,9 +1,8 @@
 -- The contents of entries after more bytes are appended.
-use Rattle.std.proofs.Common.{◌≡◌, ℕ, ◌+◌, ◌-◌, ◌<◌, ◌≤◌, List, [], ◌∷◌, ◌++◌, length, take, drop, refl, ap, sym, subst, ◌∙◌, arith, slice_index_or, slice_set, append_assoc, length-append, length-drop}
-use Rattle.std.specs.List.{All}
+use Rattle.std.proofs.Common.{◌≡◌, ℕ, ◌+◌, ◌<◌, ◌≤◌, List, ◌++◌, length, take, drop, ap, sym, subst, ◌∙◌, arith, slice_index_or, append_assoc, length-append, length-drop}
 use Rattle.std.proofs.lemmas.List.{take-append-le, drop-append-le, take_all}
 use Rattle.std.proofs.Math.Seq.{drop-append_seam, take-append_seam}
-use Rattle.std.proofs.lemmas.List.Elements.{All-get_or, All-set}
+use Rattle.std.proofs.lemmas.List.Elements.{All-get_or}
 use Rattle.text_memo.specs.declared.Entry.{Entry}
 use Rattle.text_memo.specs.declared.Pair.{Pair}
 use Rattle.text_memo.specs.declared.TextMemo.{TextMemo}
@@ -24,18 +23,6 @@ entry_appended text_for bytes more entry holds some =
       omega (arith, h.0, length-append bytes more),
       part_appended bytes more (entry.start + entry.key_len) entry.text_len (omega (arith, h.0)) ∙ h.1 ∙ ap text_for (sym (part_appended bytes more entry.start entry.key_len (omega (arith, h.0)))),
     )
-
-pub pairs_appended : (text_for : List ℕ → List ℕ) (bytes more : List ℕ) (pairs : List Pair) → All (HoldsBoth text_for bytes) pairs → All (HoldsBoth text_for (bytes ++ more)) pairs
-pairs_appended text_for bytes more pairs all = λ k d lt.
-    let both = all k d lt in
-    (entry_appended text_for bytes more (slice_index_or pairs k d).newer both.0, entry_appended text_for bytes more (slice_index_or pairs k d).older both.1)
-
--- one more entry
-pub pair_put : (text_for : List ℕ → List ℕ) (bytes : List ℕ) (pairs : List Pair) (i : ℕ) (entry : Entry) (pair : Pair) → All (HoldsBoth text_for bytes) pairs → Holds text_for bytes entry
-    → i < length pairs → pair ≡ slice_index_or pairs i pair → All (HoldsBoth text_for bytes) (slice_set pairs i (record { newer = entry; older = pair.newer }))
-pair_put text_for bytes pairs i entry pair all holds lt is =
-    let both : HoldsBoth text_for bytes pair = subst (HoldsBoth text_for bytes) (sym is) (All-get_or (HoldsBoth text_for bytes) pairs i pair lt all) in
-    All-set (HoldsBoth text_for bytes) pairs i (record { newer = entry; older = pair.newer }) (holds, both.0) all
 
 -- the entry of a key and its text, which were appended
 pub new_entry : (text_for : List ℕ → List ℕ) (bytes key text all : List ℕ) (entry : Entry) → all ≡ (bytes ++ key) ++ text → entry.start ≡ length bytes → entry.key_len ≡ length key → entry.text_len ≡ length text

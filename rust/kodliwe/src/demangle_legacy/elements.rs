@@ -34,6 +34,7 @@ fn length_at(symbol: &Symbol<'_>, at: usize) -> Option<(usize, usize)> {
 
 /// Returns the element whose length is spelled at a place. Returns `None` if there is no length, or
 /// if the element would end after the symbol.
+#[cfg_attr(not(debug_assertions), inline(always))]
 pub(super) fn element_at(symbol: &Symbol<'_>, at: usize) -> Option<Part> {
     let end = symbol.len();
     let (len, from) = length_at(symbol, at)?;

@@ -1,5 +1,5 @@
 // Made from crates/demangle_symbol/src/cursor.rt by packaging/crate/erase.py: edit that file instead.
-//! Access to the bytes of a symbol. Only `Symbol::byte` reads one.
+//! Access to the bytes of a symbol.
 
 use crate::demangle_sink::{SinkRefused, SizeLimitedFmtAdapter, TextSink};
 
