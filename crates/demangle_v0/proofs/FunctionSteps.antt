@@ -6,7 +6,7 @@ use Prim.Native.Char.{code}
 use Rattle.demangle_symbol.specs.Digits.{is_byte}
 use Rattle.demangle_symbol.specs.Primitives.{optional_at}
 use Rattle.demangle_v0_grammar.specs.Items.{Items, a_type}
-use Rattle.demangle_v0_grammar.specs.Table.{print_str, list, more, parameters, returns, type_inside, in_binder}
+use Rattle.demangle_v0_grammar.specs.Table.{print_str, more, parameters, returns, type_inside, in_binder}
 use Rattle.demangle_v0_grammar.specs.Binders.{binder_texts}
 use Rattle.demangle_v0_grammar.specs.Traces.{Trace, with_looks, with_texts}
 use Rattle.demangle_v0_tokens.specs.Texts.{token_items, text}

@@ -1,5 +1,5 @@
 -- Steps over a stack of frames.
-use Rattle.std.proofs.Common.{inl, inr, ◌⊎◌, ◌≡◌, ℕ, ◌+◌, ◌≤◌, ◌<◌, Bool, true, false, Option, Some, None, List, [], ◌∷◌, ◌++◌, length, Result, Ok, Err, IsErr, refl, arith, sym, ap, ◌∙◌, subst, append_assoc, length-append}
+use Rattle.std.proofs.Common.{inl, inr, ◌⊎◌, ◌≡◌, ℕ, ◌+◌, ◌≤◌, Bool, true, false, Option, Some, None, List, [], ◌∷◌, ◌++◌, length, Result, Ok, Err, IsErr, refl, arith, sym, ap, ◌∙◌, subst, append_assoc, length-append}
 use Rattle.std.proofs.lemmas.Bool.{false≢true}
 use Rattle.std.proofs.lemmas.List.{append-nil}
 use Rattle.demangle_v0_grammar.specs.Items.{Text}
@@ -13,11 +13,11 @@ use Rattle.demangle_v0_tokens.specs.declared.token.Token.TheVariants.{Fixed}
 use Rattle.demangle_v0.specs.Frames as heights
 use Rattle.demangle_v0_grammar.specs.Reading.{Form, Place}
 use Rattle.demangle_v0_grammar.proofs.Failed.{failed}
-use Rattle.demangle_v0.specs.Measure.{most_frames, weight_left, weight_at, weight_of, weights, height_at, height_of, count_of, FitsFrame, Fits, measure, is_inner, IsInner, AllInner}
+use Rattle.demangle_v0.specs.Measure.{most_frames, weight_left, weight_at, weight_of, weights, height_at, height_of, count_of, FitsFrame, Fits, is_inner, IsInner, AllInner}
 use Rattle.demangle_v0.specs.Traces.{Action, allows_looks, puts, with_actions, action_looks, pending_texts, pushed_on, then_frame, trace_of_frame, trace_at, trace_of_state, trace_of_stack, remaining_trace}
 use Rattle.demangle_v0.specs.Steps.{Env, StepPart, Machine, Emits, emitted_texts, Continued, Stopped, KeepsFrames, PerformsAt}
 use Rattle.demangle_v0.specs.Continuations.{items_at, bindings_left}
-use Rattle.demangle_v0.specs.Loops.{FlushesText, without_pending_text, StepDone, ResumesAt, stays, pops, frame_height, AllFit, Valid, Emitted, trace_left, RanSteps, StoppedAfter, Reads, ReadDone, first_looks}
+use Rattle.demangle_v0.specs.Loops.{FlushesText, without_pending_text, StepDone, ResumesAt, stays, pops, frame_height, AllFit, Valid, Emitted, trace_left, RanSteps, StoppedAfter, Reads, first_looks}
 use Rattle.demangle_sink.specs.declared.SinkRefused.{SinkRefused}
 use Rattle.demangle_v0_tokens.specs.declared.fixed_texts.FixedText.{FixedText}
 use Rattle.demangle_v0.specs.declared.parser.Continuation.{Continuation}
@@ -25,7 +25,6 @@ use Rattle.demangle_v0.specs.declared.parser.Continuation.TheVariants as continu
 use Rattle.demangle_v0.specs.declared.parser.frames.Frame.{Frame}
 use Rattle.demangle_v0.specs.declared.parser.State.{State}
 use Rattle.demangle_v0.specs.declared.parser.StepError.TheVariants.{Abort, Sink}
-use Rattle.demangle_v0.specs.declared.parser.steps.ReadOutcome.TheVariants as halt
 use Rattle.demangle_v0_grammar.proofs.TraceLemmas.{and_then_assoc, and_then_ended, handing_then, allowing_then}
 use Rattle.demangle_v0.proofs.StackSplit.{above_pop}
 use Rattle.demangle_v0.proofs.StepRules.{refused, bits_append, looks_append}
@@ -361,14 +360,6 @@ module _ {V : Type 0} {e : Env V} where
   pub ran_stepped : {p q : Continuation} {t u : Machine V} → StepDone e p t (Ok q) u → RanSteps e p t q u
   ran_stepped {p} {q} {t} {u} z = subst (λ (ys : List Frame). RanSteps e p t q (record u { stack = ys })) (sym z.steps.0.is_stack) (ran_step z t.stack)
 
-  -- one iteration
-  pub ran_machine : {base : ℕ} {o p q r : Continuation} {first t w : Machine V} {s : State} {mid : List Frame} → RanSteps e o first p t → ResumesAt base p t.state t.stack q s mid → StepDone e q (record t { state = s; stack = mid }) (Ok r) w → RanSteps e o first r w
-  ran_machine x k z = ran_then x (ran_then (ran_resumes k) (ran_stepped z))
-
-  -- the output rejected a text
-  pub ran_broke : {base : ℕ} {o p q : Continuation} {first t w : Machine V} {s : State} {mid : List Frame} {f : SinkRefused} → RanSteps e o first p t → ResumesAt base p t.state t.stack q s mid → StepDone e q (record t { state = s; stack = mid }) (Err f) w → StoppedAfter e o first w.output w.looks
-  ran_broke {q = q} {t = t} {w = w} {s = s} {mid = mid} x k z = record { at = q; mid = record t { state = s; stack = mid }; stack = mid; end = w; ran = ran_then x (ran_resumes k); halts = z.steps.0; same_output = refl; same_looks = refl }
-
   -- the steps keep the place at which the trace ends, and make no more looks than the trace allows
   pub ran_place : {p q : Continuation} {t u : Machine V} → RanSteps e p t q u → (trace_left e q u).place ≡ (trace_left e p t).place
   ran_place {q = q} {u = u} x = sym (place_bits e.output.is_printed x.bits (trace_left e q u)) ∙ ap (λ (h : Trace). h.place) (sym x.reads)
@@ -420,24 +411,6 @@ module _ {V : Type 0} {e : Env V} where
   pub valid_steps : {p q : Continuation} {t u : Machine V} → Valid p t.state t.stack → StepDone e p t (Ok q) u → Valid q u.state u.stack
   valid_steps {p} {q} {t} {u} l z = let d = z.steps.0 in subst (Valid q u.state) (sym d.is_stack) (valid_push p q t.state u.state t.stack d.pushed l d.outer_height d.inner_height d.outer_fits d.inner_fits z.steps.1)
 
-  -- one iteration of a parse lowers the measure
-  pub machine_less : {base : ℕ} {p q r : Continuation} {s : State} {stack : List Frame} {t u : Machine V} → ResumesAt base p s stack q t.state t.stack → StepDone e q t (Ok r) u
-      → measure e.symbol e.form e.output.is_printed r u.state u.stack < measure e.symbol e.form e.output.is_printed p s stack
-  machine_less {r = r} {t = t} {u = u} x z =
-      let d = z.steps.0 in
-      omega (
-        arith,
-        resume_light x,
-        ap (λ (h : Trace). allowed_in h.events) (resumes_trace e.symbol e.form e.output.is_printed x),
-        ap (λ (h : Trace). allowed_in h.events) (step_trace z t.stack),
-        allowed_bits e.output.is_printed (bits_of e d.prefix d.emitted d.back) (trace_left e r (record u { stack = pushed_on t.stack d.pushed })),
-        ap (λ (ys : List Frame). allowed_in (trace_left e r (record u { stack = ys })).events) d.is_stack,
-        ap weights d.is_stack,
-        weights_pushed t.stack d.pushed,
-        d.lighter,
-        bits_total e d.prefix d.emitted d.back,
-      )
-
 -- Above other frames.
 
 pub pushed_above : (below frames : List Frame) (f : Option Frame) → pushed_on (below ++ frames) f ≡ below ++ pushed_on frames f
@@ -459,27 +432,3 @@ module _ {V : Type 0} {e : Env V} where
         inner = inner_below split.0 f (subst AllInner split.1 x.inner);
         ran = ran_then x.ran (ran_resumes over);
       }
-
-  -- one iteration
-  pub reads_machine : {base : ℕ} {below : List Frame} {o p q r : Continuation} {first t w : Machine V} {s : State} {mid : List Frame} → e.output.is_printed ≡ false → Reads e below o first p t → length below ≡ base → ResumesAt base p t.state t.stack q s mid
-      → StepDone e q (record t { state = s; stack = mid }) (Ok r) w → Reads e below o first r w
-  reads_machine {below = below} without_output x l k z =
-      let d = z.steps.0 in
-      let y = reads_resume x l k in
-      record {
-        frames = pushed_on y.frames d.pushed;
-        is_stack = d.is_stack ∙ (ap (λ (ys : List Frame). pushed_on ys d.pushed) y.is_stack ∙ pushed_above below y.frames d.pushed);
-        inner = inner_pushed y.frames d.pushed y.inner (d.no_output without_output);
-        ran = ran_then y.ran (ran_step z y.frames);
-      }
-
-  -- the parse failed
-  pub reads_fail : {base : ℕ} {below : List Frame} {o p q end : Continuation} {first t w : Machine V} {s u : State} {mid : List Frame} {f : SinkRefused} → Reads e below o first p t → length below ≡ base → ResumesAt base p t.state t.stack q s mid
-      → StepDone e q (record t { state = s; stack = mid }) (Err f) w → ReadDone e below o first halt.Failed end (record w { state = u })
-  reads_fail {below = below} {q = q} {t = t} {w = w} {s = s} {mid = mid} x l k z = let y = reads_resume x l k in let d = z.steps in record {
-    reads = (
-      record { at = q; mid = record t { state = s; stack = mid }; stack = y.frames; end = w; ran = y.ran; halts = d.0; same_output = refl; same_looks = refl },
-      y.inner,
-      (y.frames ++ d.1.0, d.1.1 ∙ (ap (λ (ys : List Frame). ys ++ d.1.0) y.is_stack ∙ append_assoc below y.frames d.1.0)),
-    );
-  }

@@ -146,14 +146,6 @@ token_paced b x c out n i t j e = omega (arith, ap (left_of (length b)) e, all i
     all None = after_error x
     all (Some i) = (token_slow b x c out n i).slow
 
--- after a name
-pub named_paced : (b : List ℕ) (at : ℕ) (f : Ident → ℕ → Token) (t : Token) (j : ℕ) → reads.Parsed t (Some j) ≡ (named_group b at f).reads → total (named_group b at f).costs + 4 * (length b - j) ≤ 4 * (length b - at) + 8
-named_paced b at f t j e = omega (arith, ap (left_of (length b)) e, (named_slow b at f).slow)
-
--- after an optional primitive
-pub optional_paced : (t : ℕ) (b : List ℕ) (i v j m n : ℕ) → optional_at t b i ≡ Some (v, j) → n ≤ m + 4 * (j - i + 1) → n + 4 * (length b - j) ≤ m + 4 * (length b - i) + 4
-optional_paced t b i v j m n e l = let p = optional_there t b i v j e in omega (arith, p.0, p.1, l)
-
 -- a target is before its reference
 target_before : (symbol : List ℕ) (i t j : ℕ) → backref_at symbol i ≡ Some (t, j) → t ≤ i
 unfolding backref_at

@@ -7,9 +7,9 @@ use Rattle.demangle_v0_grammar.specs.Reading.{Form}
 use Rattle.demangle_v0_tokens.specs.declared.output.Output.{Ghosts}
 use Rattle.demangle_v0_tokens.specs.declared.token.Token.{Token}
 use Rattle.demangle_sink.specs.declared.SinkRefused.{SinkRefused}
-use Rattle.demangle_v0.specs.Loops.{StepDone, ValidUnfinished}
-use Rattle.demangle_v0.specs.Parsers.{UnfinishedIsValid, Same, PerformedRest, Performed, Advanced, AdvancedRest, AdvancedWithoutOutput, AdvancedUnfolded, unused_output, env_of, checkpoint_of}
-use Rattle.demangle_v0.specs.Steps.{StepResult, Performs, Emits, StepPart, Machine, env, machine}
+use Rattle.demangle_v0.specs.Loops.{ValidUnfinished}
+use Rattle.demangle_v0.specs.Parsers.{UnfinishedIsValid, Same, PerformedRest, Performed, Advanced, AdvancedRest, AdvancedWithoutOutput, AdvancedUnfolded, unused_output, checkpoint_of}
+use Rattle.demangle_v0.specs.Steps.{StepResult, Performs, Emits, StepPart, env, machine}
 use Rattle.demangle_v0.specs.declared.parser.Continuation.{Continuation}
 use Rattle.demangle_v0.specs.declared.parser.State.{State}
 use Rattle.demangle_v0.specs.declared.parser.StepError.{StepError}
@@ -100,10 +100,6 @@ advanced_rest output v items words weight above {m} {k} {r} d = let x = d output
   does = does_trace output m.source.symbol.now m.source.form v _ m.state k.state m.stack.frames k.stack.frames m.looks k.looks r x.does;
   same = x.same;
 }
-
--- A step of a parser that was at another step before, with the same source.
-pub stepped_as : {V : Type 0} (output : Ghosts V) (m k : Parser) {p : Continuation} {t u : Machine V} {r : Result Continuation SinkRefused} → Same m k → StepDone (env_of output k) p t r u → StepDone (env_of output m) p t r u
-stepped_as output m k (e, h, n) d = rw (← e, ← h) d
 
 -- The rest that is left to print, for a parser of the same source.
 pub left_as : (n : ℕ) (m k : Parser) (r : Result (Option Unfinished) SinkRefused) → Same m k → ValidUnfinished m.source.symbol.now m.source.form n r (checkpoint_of k) k.stack.frames k.looks → UnfinishedIsValid n r k

@@ -84,10 +84,27 @@ module _ {V : Type 0} {e : Env V} where
       some_none : Some y ≡ None → ⊥
       some_none z = cc
 
-  -- the output rejected a text
-  pub ended_err : {p : Continuation} {t : Machine V} {f : SinkRefused} {result : Result (Unit {0}) SinkRefused} {r : Checkpoint} {now : List Frame} {w : V} {n : ℕ} → IsErr result → PrintDone e p t (Err f) r now w n → Ended e p t result w n
-  ended_err {result = Ok y} h c = absurd (false≢true h)
-  ended_err {result = Err g} h c = record { ended = c.ran }
+  -- nothing is left, and the place at the end is known
+  pub ended_at : {p : Continuation} {t : Machine V} {answer : Option Unfinished} {r : Checkpoint} {now : List Frame} {w : V} {n place : ℕ} → answer ≡ None → r.state.place ≡ Some place → PrintDone e p t (Ok answer) r now w n → EndedAt e p t place w n
+  ended_at {answer = None} {r = r} k at c = record { state = r.state; at = at; ran = c.ran }
+  ended_at {answer = Some y} k at c = absurd (some_none k)
+    where
+      some_none : Some y ≡ None → ⊥
+      some_none z = cc
+
+  -- the rest of a parse was printed, which counted its own looks
+  pub ended_apart : {p : Continuation} {t : Machine V} {answer : Option Unfinished} {r : Checkpoint} {now : List Frame} {v w : V} {m n : ℕ} → answer ≡ Some left.Printing → PrintDone e p t (Ok answer) r now v m → Ended e r.continuation (machine r.state now v 0) (Ok tt) w n → Ended e p t (Ok tt) w n
+  ended_apart {answer = None} k c z = absurd (none_some k)
+    where
+      none_some : None ≡ Some left.Printing → ⊥
+      none_some z = cc
+  ended_apart {answer = Some left.Printing} k c z =
+      let a = c.ran in
+      record { ended = (z.ended.0, ran_then (record { bits = a.bits; emits = a.emits; reads = a.reads; paid_looks = omega arith }) z.ended.1) }
+  ended_apart {answer = Some (left.ImplPath base at)} k c z = absurd (other k)
+    where
+      other : Some (left.ImplPath base at) ≡ Some left.Printing → ⊥
+      other z = cc
 
 pub passed_valid : (b : List ℕ) (form : Form) (primitive_count now : List Frame) (k : ℕ) (x : Unfinished) (r to : Checkpoint) (m n : ℕ) → ValidUnfinished b form k (Ok (Some x)) r primitive_count m → Passed b form x r primitive_count m to now n → Valid to.continuation to.state now
 passed_valid b form primitive_count now i left.Printing r to m n v k = rw (k.0, k.1) v.0

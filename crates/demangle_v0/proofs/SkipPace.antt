@@ -71,8 +71,3 @@ module _ (m : Parser) (k : Parser) (i : ℕ) (skipped : is_skipped m.source.form
 pub resumed_place : {base : ℕ} {p q : Continuation} {s t : State} {stack now : List Frame} → ResumesAt base p s stack q t now → t.place ≡ s.place
 resumed_place (stays other e k r) = ap (λ (z : State). z.place) k
 resumed_place (pops f e l r d k) = ap (λ (z : State). z.place) k
-
--- no more bytes are left at a place than there are
-pub left_most : (n : ℕ) (x : Place) → left_at n x ≤ n
-left_most n None = omega arith
-left_most n (Some i) = omega arith

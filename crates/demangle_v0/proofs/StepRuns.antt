@@ -86,10 +86,6 @@ module _ {V : Type 0} {e : Env V} where
   pub runs_valid : {p q : Continuation} {t u : Machine V} → Runs e p (bare t) q u → Valid p t.state t.stack → Valid q u.state (t.stack ++ u.stack)
   runs_valid {p} {q} {t} {u} x v = x.valid t.stack (subst (Valid p t.state) (sym (at_top t.stack)) v)
 
-  -- a single step
-  pub steps_one : {p : Continuation} {t u : Machine V} {r : Result Continuation SinkRefused} → StepDone e p t r u → StepsDone e p t r u
-  steps_one {p} {t} {u} {r} z = record { at = p; mid = bare t; runs = runs_none; done = subst (λ (zs : List Frame). StepDone e p (record t { stack = zs }) r u) (sym (at_top t.stack)) z }
-
   pub steps_valid : {p q : Continuation} {t u : Machine V} → Valid p t.state t.stack → StepsDone e p t (Ok q) u → Valid q u.state u.stack
   steps_valid v z = valid_steps (runs_valid z.runs v) z.done
 

@@ -28,7 +28,7 @@ use Rattle.demangle_v0_grammar.proofs.ConstantTraces.{constant_missing, constant
 use Rattle.demangle_v0_grammar.proofs.SequencedItems.{extended, IsExtended, extended_reads}
 use Rattle.demangle_v0_tokens.proofs.TagRows.{row_found}
 use Rattle.demangle_v0.proofs.ConstantSteps.{items_of, Inside}
-use Rattle.demangle_v0.proofs.StepCases.{alike, following, after_few, ends, text_step}
+use Rattle.demangle_v0.proofs.StepCases.{alike, following, after_few, ends, text_step, moves}
 
 constant_so : {V : Type 0} (e : Env V) (s : State) (c : ℕ) (o : Option ConstantKind) → o ≡ found c constant_kinds → items_of e (constant s.in_value c) s ≡ items_of e (some_or invalid o (constant_of s.in_value c)) s
 constant_so e s c o q =
@@ -117,12 +117,13 @@ module _ {V : Type 0} {e : Env V} where
       (rw at (ap with_closed_bracket (reference_reads e.form e.output.is_printed e.symbol a.depth_left a.lifetimes a.in_value i (sym c))))
       (record { grows = omega (arith, l); within = omega (arith, l) }) (rw at (omega (arith, l))) (omega arith) (omega arith) (referred_braced f r)
 
-  pub shared_text : {t u : Machine V} {r : Result Continuation StepError} {n : ℕ} (i : ℕ) → t.state.place ≡ Some i → true ≡ is_byte e.symbol i (code "e") → n ≡ t.looks + 1 → u.looks ≤ t.looks + step_looks_bound e.symbol t.state.place
-      → PerformsAt e continuation.StrLiteral (record t { state = record t.state { place = Some (i + 1) }; looks = n }) r u → PerformsRest e (shared_constant t.state.in_value) 6 6 9 t r u
-  unfolding trace_at
-  shared_text {t} i at c l short d =
+  pub shared_text : {t : Machine V} {n : ℕ} (i : ℕ) → t.state.place ≡ Some i → true ≡ is_byte e.symbol i (code "e") → n ≡ t.looks + 1 → t.state.pending_text ≡ None → Fits continuation.Constant t.state.depth_left t.state.lifetimes
+      → PerformsRest e (shared_constant t.state.in_value) 6 6 9 t (Ok continuation.StrLiteral) (record t { state = record t.state { place = Some (i + 1) }; looks = n })
+  unfolding then_frame trace_at
+  shared_text {t} i at o l k f =
       let a = t.state in
-      after_few (1 ∷ []) (omega arith) (rw at (ap with_closed_bracket (text_reads e.form e.output.is_printed e.symbol a.depth_left a.lifetimes a.in_value i (sym c)))) (record { grows = omega (arith, l); within = omega (arith, l) }) short (omega arith) (omega arith) d
+      moves continuation.StrLiteral (1 ∷ []) (omega arith) (rw (at, k) (ap with_closed_bracket (text_reads e.form e.output.is_printed e.symbol a.depth_left a.lifetimes a.in_value i (sym o))))
+      (record { grows = omega (arith, l); within = omega (arith, l) }) (rw at (omega (arith, l))) (omega arith) (omega arith) f
 
   -- Numbers.
 

@@ -9,3 +9,5 @@ pub mod Productions
 pub mod Steps
 pub mod StepRuns
 pub mod Traces
+pub mod Attempts
+pub mod Printed

@@ -1,6 +1,6 @@
 -- Internal: no public contract cites this.
 -- The termination measure, the height of the stack, and the number of lifetimes in scope.
-use Rattle.std.specs.Prelude.{Bool, List, None, Option, Some, [], false, if◌then◌else◌, true, ℕ, ◌*◌, ◌++◌, ◌+◌, ◌-◌, ◌<◌, ◌==◌, ◌^◌, ◌∷◌, ◌≡◌, ◌≤◌, ◌⊎◌}
+use Rattle.std.specs.Prelude.{Bool, List, None, Option, Some, [], false, true, ℕ, ◌*◌, ◌+◌, ◌<◌, ◌^◌, ◌∷◌, ◌≡◌, ◌≤◌}
 use Rattle.demangle_v0_grammar.specs.Reading.{Form, max_depth}
 use Rattle.demangle_v0_grammar.specs.LookTotals.{allowed_in}
 use Rattle.demangle_v0.specs.declared.parser.Continuation.{Continuation}

@@ -17,7 +17,7 @@ use Rattle.demangle_v0.specs.Measure.{AllInner}
 use Rattle.demangle_v0.specs.Steps.{Performs, PerformsAt, Env, CanEmit, CanRead, CanStep, StepPart, Machine, env, rest, machine, step_looks_bound, whole}
 use Rattle.demangle_v0.specs.StepRuns.{PerformsLast, Runs, bare, name_frames, raised}
 use Rattle.demangle_v0.specs.Traces.{pushed_on, remaining_trace}
-use Rattle.demangle_v0.specs.Loops.{Valid, ReadDone, Skipped, StopsInImplPath, PrintDone, ValidUnfinished, Finishes, Ended, EndedAt, first_looks, first_state, looks_left, printing, no_output_env, no_output_machine}
+use Rattle.demangle_v0.specs.Loops.{Valid, ReadDone, Skipped, StopsInImplPath, PrintDone, ValidUnfinished, Finishes, Ended, first_looks, first_state, looks_left, printing, no_output_env, no_output_machine}
 use Rattle.demangle_v0.specs.Productions.{IsProduction, target_part}
 use Rattle.demangle_v0.specs.declared.parser.Continuation.{Continuation}
 use Rattle.demangle_v0.specs.declared.parser.Continuation.TheVariants as continuation
@@ -211,6 +211,10 @@ LooksAt more m k = k.looks ≤ m.looks + 4 * left_at (length m.source.symbol.now
 abbrev pub most_looks : Parser → ℕ
 most_looks m = m.looks + 4 * all_of m.fuel + 4 * left_at (length m.source.symbol.now) m.state.place + 32 * (length m.source.symbol.now + 1) + 7
 
+-- a byte or the end is next
+abbrev pub IsWithin : Parser → Type 0
+IsWithin m = (i : ℕ) × (m.state.place ≡ Some i) × (i ≤ length m.source.symbol.now)
+
 -- The effect of the loops.
 
 -- the stack has room for all frames that the rest can need, and the lifetimes fit
@@ -264,9 +268,9 @@ PrintsSteps sink m v result k w = PrintDone (printing_of sink m) m.continuation 
 abbrev pub PrintsAll : {S : Type 0} → Sinks S → Parser → SizeLimitedFmtAdapter S → Result (Unit {0}) SinkRefused → Parser → SizeLimitedFmtAdapter S → Type 0
 PrintsAll sink m v result k w = Ended (printing_of sink m) m.continuation (machine_of m v) result w k.looks
 
--- the same, and parsing ended at this place
-abbrev pub PrintsTo : {S : Type 0} → Sinks S → Parser → SizeLimitedFmtAdapter S → ℕ → Parser → SizeLimitedFmtAdapter S → Type 0
-PrintsTo sink m v place k w = EndedAt (printing_of sink m) m.continuation (machine_of m v) place w k.looks
+-- the same, with a count of looks of its own
+abbrev pub PrintsApart : {S : Type 0} → Sinks S → Parser → SizeLimitedFmtAdapter S → Result (Unit {0}) SinkRefused → SizeLimitedFmtAdapter S → Type 0
+PrintsApart sink m v result w = (n : ℕ) × Ended (printing_of sink m) m.continuation (machine_of (looked m 0) v) result w n
 
 -- the same for the unfinished part of a text
 abbrev pub PrintsOn : {S : Type 0} → Sinks S → Parser → Unfinished → SizeLimitedFmtAdapter S → Result (Option Unfinished) SinkRefused → Parser → SizeLimitedFmtAdapter S → Type 0

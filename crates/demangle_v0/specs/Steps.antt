@@ -1,8 +1,7 @@
 -- Internal: no public contract cites this.
 -- The effect of one step.
-use Rattle.std.specs.Prelude.{Err, IsAscii, IsOk, List, None, Ok, Option, Result, Some, [], false, if◌then◌else◌, length, true, ℕ, ◌*◌, ◌++◌, ◌+◌, ◌-◌, ◌<◌, ◌==◌, ◌^◌, ◌∷◌, ◌≡◌, ◌≤◌, ◌⊎◌}
-use Rattle.demangle_v0_grammar.specs.Items.{Items, Text, if_ok}
-use Rattle.demangle_v0_grammar.specs.Table.{more}
+use Rattle.std.specs.Prelude.{Err, IsAscii, IsOk, List, None, Ok, Option, Result, Some, [], false, length, true, ℕ, ◌*◌, ◌++◌, ◌+◌, ◌-◌, ◌<◌, ◌∷◌, ◌≡◌, ◌≤◌, ◌⊎◌}
+use Rattle.demangle_v0_grammar.specs.Items.{Items, Text}
 use Rattle.demangle_v0_grammar.specs.Reading.{Form, Place, parse}
 use Rattle.demangle_v0_grammar.specs.LookTotals.{total}
 use Rattle.demangle_v0_grammar.specs.Traces.{Trace, context_at, empty_trace, of, with_looks, with_texts}
@@ -11,7 +10,6 @@ use Rattle.demangle_v0_tokens.specs.Tokens.{texts_of}
 use Rattle.demangle_v0_tokens.specs.declared.fixed_texts.FixedText.{FixedText}
 use Rattle.demangle_v0_tokens.specs.declared.token.Token.{Token}
 use Rattle.demangle_v0.specs.declared.parser.Continuation.{Continuation}
-use Rattle.demangle_v0.specs.declared.parser.Continuation.TheVariants as continuation
 use Rattle.demangle_v0.specs.declared.parser.frames.Frame.{Frame}
 use Rattle.demangle_v0.specs.declared.parser.State.{State}
 use Rattle.demangle_v0.specs.declared.parser.StepError.{StepError}

@@ -1,6 +1,6 @@
 -- Internal: no public contract cites this.
 -- The remaining trace of continuations, frames and stacks.
-use Rattle.std.specs.Prelude.{Bool, List, None, Option, Some, [], false, if◌then◌else◌, ℕ, ◌*◌, ◌++◌, ◌+◌, ◌-◌, ◌<◌, ◌==◌, ◌^◌, ◌∷◌, ◌≡◌, ◌≤◌, ◌⊎◌}
+use Rattle.std.specs.Prelude.{Bool, List, None, Option, Some, [], false, ℕ, ◌++◌, ◌+◌, ◌∷◌}
 use Rattle.demangle_v0_grammar.specs.Items.{Text, a_constant, a_path, a_pattern, a_trait_path, a_type}
 use Rattle.demangle_v0_grammar.specs.Reading.{Form, Place, parse, unit_outcome}
 use Rattle.demangle_v0_grammar.specs.LookTotals.{total}

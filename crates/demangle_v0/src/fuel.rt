@@ -2,19 +2,18 @@
 //!
 //! A back reference may lead to bytes that were read before, and these to others. So the work of
 //! printing is not bounded by the length of the run, and a run that is no symbol must not be
-//! printed to its end. The fuel pays for each step, and for the bytes that are read again. A parse
-//! with a budget ends when its fuel is used up.
+//! printed to its end. The fuel pays for each step, and for the bytes that are read again. If it is
+//! used up, a parse with a budget stops, and its caller validates the symbol. Only a valid one is
+//! printed on.
 //!
 //! Outside of references a parse reads each byte once, as validation does. Within them it has only
-//! a little fuel: some from its start, and some for each byte that it read outside. So what is
-//! printed in vain costs at most a few times what validation up to the same place does.
+//! a little fuel: some from its start, and some for each byte that it read outside.
 ghost use Rattle.std.specs.Prelude.{◌≡◌, ◌+◌, ◌-◌, ◌*◌, ◌<◌, ◌≤◌, true, false, length, Some, IsTrue, IsErr, IsSome, IfSome, IfOk, IfNone};
-ghost use Rattle.demangle_v0.specs.Parsers.{IsValid, Paced, Same, SkipsFull, SkipsOver, all_of, left_at, no_fuel};
+ghost use Rattle.demangle_v0.specs.Parsers.{IsValid, IsWithin, Paced, Same, SkipsFull, SkipsOver, all_of, left_at, no_fuel};
 ghost use Rattle.demangle_v0.specs.Skips.{is_skipped};
 
 use crate::parser::machine::Parser;
 use crate::printer::Unfinished;
-use demangle_sink::SinkRefused;
 use std::mem;
 
 /// The fuel for each byte of a run and for its end.
@@ -23,8 +22,11 @@ const FUEL_PER_BYTE: usize = 24;
 /// The part of it that a parse has at its start for the steps within references.
 const FIRST_FUEL: usize = 64;
 
-/// What a byte that is read outside of references adds to that.
+/// The fuel for those steps that a byte adds which is read outside of references.
 const EARNED_FUEL: usize = 4;
+
+/// What a constant or a function type uses up of that part.
+const SLOW_FUEL: usize = 64;
 
 /// The fuel that a step uses up.
 const STEP_FUEL: usize = 5;
@@ -68,9 +70,9 @@ impl Fuel {
         }
     }
 
-    /// Returns the budget for a run of so many bytes.
+    /// Returns the fuel for a run of so many bytes.
     #[inline(always)]
-    pub(crate) fn of(bytes: usize) -> Self
+    pub(crate) fn for_run(bytes: usize) -> Self
         ensures { all_of result ≤ 24 * (bytes + 1) }
     {
         let all = bytes.saturating_add(1).saturating_mul(FUEL_PER_BYTE);
@@ -90,6 +92,7 @@ impl Fuel {
         ensures paid { IsTrue result → has_budget ≡ true → all_of self.new + 5 ≤ all_of self.old }
         ensures some { IsTrue result → has_budget ≡ true → 0 < self.old.left }
         ensures spent { result ≡ false → has_budget ≡ true }
+        ensures kept { result ≡ false → self.new ≡ self.old }
     {
         if !has_budget {
             return true;
@@ -116,6 +119,32 @@ impl Fuel {
     {
         if is_slow {
             self.left = 0;
+        }
+    }
+
+    /// Uses up fuel for a constant or a function type, which are slow to print.
+    #[inline(always)]
+    pub(crate) fn spend(&mut self)
+        ensures { all_of self.new ≤ all_of self.old }
+    {
+        // A parse without a budget has no fuel, and calls nothing.
+        if self.left > 0 {
+            self.spend_slow_fuel();
+        }
+    }
+
+    /// Does the same as `spend`.
+    #[inline(never)]
+    fn spend_slow_fuel(&mut self)
+        ensures { all_of self.new ≤ all_of self.old }
+    {
+        if self.is_inside {
+            self.left = self.left.saturating_sub(SLOW_FUEL);
+            return;
+        }
+        match self.reserve.checked_sub(SLOW_FUEL) {
+            Some(reserve) => self.reserve = reserve,
+            None => self.left = 0,
         }
     }
 
@@ -242,10 +271,8 @@ impl Parser<'_, '_> {
     /// Returns whether a parse may read a part without output. One with a budget may do so only at
     /// a byte or at the end, where the length of the symbol bounds the looks.
     #[inline(always)]
-    fn may_skip(&self, has_budget: bool) -> bool
-        ensures known { IsTrue result → has_budget ≡ true → IsSome self.now.state.place }
-        ensures within { IsTrue result → has_budget ≡ true → IfSome self.now.state.place
-            (λ i. i ≤ length self.now.source.symbol.now) }
+    pub(crate) fn may_skip(&self, has_budget: bool) -> bool
+        ensures within { IsTrue result → has_budget ≡ true → IsWithin self.now }
         ensures without { result ≡ false → has_budget ≡ true }
     {
         if !has_budget {
@@ -260,35 +287,26 @@ impl Parser<'_, '_> {
     /// Reads the impl path or the folded arguments at which the parser is, continues after them,
     /// and uses up fuel for their bytes. Returns what is left to print if the stack is full before
     /// they end. Then no fuel is left, and neither is after an error.
-    ///
-    /// A parse with a budget fails if it may not skip them.
     #[inline(never)]
-    pub(crate) fn skip_for_fuel(
-        &mut self,
-        has_budget: bool,
-    ) -> Result<Option<Unfinished>, SinkRefused>
+    pub(crate) fn skip_for_fuel(&mut self) -> Option<Unfinished>
         requires skipped { is_skipped self.old.source.form self.old.continuation ≡ true }
         requires valid { IsValid self.old }
-        ensures over { IfOk result (λ left. IfNone left (SkipsOver self.old self.new)) }
-        ensures full { IfOk result (λ left. IfSome left (λ x. SkipsFull self.old x self.new)) }
-        ensures spent { IsErr result → has_budget ≡ true }
-        ensures paced { has_budget ≡ true → Paced 20 self.old self.new }
-        ensures most { has_budget ≡ true → self.new.looks ≤ self.old.looks + 32 * (length
+        ensures over { IfNone result (SkipsOver self.old self.new) }
+        ensures full { IfSome result (λ x. SkipsFull self.old x self.new) }
+        ensures paced { IsWithin self.old → Paced 20 self.old self.new }
+        ensures most { IsWithin self.old → self.new.looks ≤ self.old.looks + 32 * (length
             self.old.source.symbol.now + 1) + 7 }
         ensures grows { self.old.looks ≤ self.new.looks }
         ensures same { Same self.old self.new }
     {
-        if !self.may_skip(has_budget) {
-            return Err(SinkRefused);
-        }
         let fuel = self.fuel;
         let start = self.place();
         if let Some(left) = self.skip_impl_path() {
             self.fuel.use_up();
-            return Ok(Some(left));
+            return Some(left);
         }
         let left = fuel_after(fuel.left, start, self.place());
         self.fuel = Fuel { left, ..fuel };
-        Ok(None)
+        None
     }
 }

@@ -2,11 +2,11 @@
 #![tactic(auto)]
 
 ghost use Rattle.std.specs.Prelude.{◌≡◌, ◌+◌, ◌-◌, ◌*◌, ◌≤◌, IfOk, IfSome, IfNone, OnErr, OnSome, Ok, Some, None, IsTrue, IsAscii, false, length, option_map};
-ghost use Rattle.demangle_v0_grammar.specs.Reading.{path_texts};
 ghost use Rattle.demangle_v0_grammar.specs.V0.{v0_inner, v0_of};
-ghost use Rattle.demangle_sink.specs.Limit.{Prints, Ready};
+ghost use Rattle.demangle_sink.specs.Limit.{Ready};
+ghost use Rattle.demangle_v0.specs.Printed.{HasLengthsWithin, IsKnown};
 
-use crate::validation::{begins_path, print_to_suffix, suffix_at};
+use crate::validation::{Attempt, begins_path, print_to_suffix, suffix_at};
 use demangle_sink::{SizeLimitedFmtAdapter, TextSink};
 use demangle_symbol::cursor::{Looks, ParseError, Symbol};
 use demangle_symbol::form::Form;
@@ -113,39 +113,56 @@ pub fn demangle<'s>(
     Ok((Demangle::new(symbol), &inner[end..]))
 }
 
-/// Reads a v0 symbol and prints its first path, in one pass over the path, and counts its looks:
-/// with hashes or without them, and with its generic arguments or with `_` for them. Returns the
-/// symbol and the suffix after its paths. The text must be ASCII.
+/// What is known of a text whose first path was printed before it was known to be a symbol.
+#[derive(Drop)]
+pub enum Printed<'s> {
+    /// The text is this symbol with this suffix, and its first path was printed.
+    Symbol(Demangle<'s>, &'s str),
+    /// The text is this symbol with this suffix. A part of the first path may be printed.
+    Part(Demangle<'s>, &'s str),
+    /// The text is not a symbol. A part of a path may be printed.
+    NoSymbol,
+    /// The limit or the sink rejected a piece before it was known whether the text is a symbol.
+    Unknown,
+}
+
+/// Reads a v0 symbol and prints its first path, and counts its looks: with hashes or without them,
+/// and with its generic arguments or with `_` for them. Returns what is known of the text then, which
+/// must be ASCII.
 ///
-/// Returns `None` if the text is not a v0 symbol. Also returns `None` if a lifetime or a reference
-/// of the path has an error, if the limit or the sink rejects a piece, if the path is nested
-/// deeply, or if its references lead back too far for the length of the text. Then an unknown part
-/// of the path may be printed, and `demangle` says whether the text is a symbol. In any case the
-/// looks are bounded by the length of the text.
+/// If the path has few references, the text is read once. Otherwise, and after an error, the text is
+/// validated before the rest of the path is printed. A path that is nested deeply may be printed in
+/// part. The looks up to the end of validation are bounded by the length of the text, and by less if
+/// the text was not validated.
 pub fn demangle_printed<'s, S: TextSink>(
     s: &'s str,
     out: &mut SizeLimitedFmtAdapter<'_, S>,
     form: Form,
     looks: &mut Looks,
-) -> Option<(Demangle<'s>, &'s str)>
+) -> Printed<'s>
     requires ascii { IsAscii s.now }
     requires ready { Ready S.TextSink out.old }
-    ensures some { IfSome result (λ r. v0_of s.now ≡ Some (r.0, r.1.now)) }
-    ensures prints { IfSome result (λ r. Prints S.TextSink out.old
-        (path_texts r.0 form) (Ok tt) out.new) }
-    ensures suffix { IfSome result (λ r. length r.1.now ≤ length s.now) }
+    ensures known { IsKnown S.TextSink s.now out.old form result out.new }
+    ensures inner { HasLengthsWithin (length s.now) result }
     ensures grows { looks.old ≤ looks.new }
-    ensures most { looks.new ≤ looks.old + 138 * (length s.now + 1) }
+    ensures most { looks.new ≤ looks.old + 186 * (length s.now + 1) }
+    ensures early { result ≡ Printed.Unknown → looks.new ≤ looks.old + 133 * (length s.now + 1) + 8 }
 {
-    let inner = ascii_inner_of(s, true, looks)?;
+    let Some(inner) = ascii_inner_of(s, true, looks) else {
+        return Printed::NoSymbol;
+    };
     let symbol = Symbol::new(inner);
     if !begins_path(&symbol, 0, looks) {
-        return None;
+        return Printed::NoSymbol;
     }
     let source = Source {
         symbol: &symbol,
         form,
     };
-    let end = print_to_suffix(source, out, looks)?;
-    Some((Demangle::new(symbol), &inner[end..]))
+    match print_to_suffix(source, out, looks) {
+        Attempt::Printed(end) => Printed::Symbol(Demangle::new(symbol), &inner[end..]),
+        Attempt::Read(end) => Printed::Part(Demangle::new(symbol), &inner[end..]),
+        Attempt::NoPath => Printed::NoSymbol,
+        Attempt::Unknown => Printed::Unknown,
+    }
 }

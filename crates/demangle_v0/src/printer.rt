@@ -1,14 +1,17 @@
 //! Prints the first path of a v0 symbol. Each step prints what it reads as soon as it is known.
-ghost use Rattle.std.specs.Prelude.{◌≡◌, ◌+◌, ◌*◌, ◌≤◌, [], true, false, length, IsAscii, IfSome, IsOk, IsTrue, Ok, Some, None};
+ghost use Rattle.std.specs.Prelude.{◌≡◌, ◌+◌, ◌<◌, ◌≤◌, true, false, IsAscii, IfSome, IsOk, Ok, Some, None};
 ghost use Rattle.demangle_sink.specs.Limit.{Ready};
-ghost use Rattle.demangle_v0.specs.Parsers.{EndsPrinting, IsValid, UnfinishedIsValid, Paced, PrintsAll, PrintsOn, PrintsSteps, PrintsTo, Same, all_of, first_looks_of, most_looks, unfinished_looks};
+ghost use Rattle.demangle_v0.specs.Parsers.{EndsPrinting, IsValid, UnfinishedIsValid, Paced, PrintsAll, PrintsApart, PrintsOn, PrintsSteps, Same, first_looks_of, most_looks, unfinished_looks};
 
+use crate::fuel::Fuel;
 use crate::parser::Continuation;
 use crate::parser::frames::{FULL_STACK, MIDDLE_STACK, UNUSED_FRAME};
 use crate::parser::machine::Parser;
 use crate::parser::skip::is_skipped;
 use crate::parser::steps::Checkpoint;
 use demangle_sink::{SinkRefused, SizeLimitedFmtAdapter, TextSink};
+use demangle_symbol::cursor::Looks;
+use std::mem;
 
 /// The rest that is left to print when the stack is full.
 #[derive(Clone, Copy)]
@@ -21,11 +24,10 @@ pub enum Unfinished {
 }
 
 impl Parser<'_, '_> {
-    /// Prints until nothing is left or the stack is full. Returns what is left if the stack is
-    /// full.
+    /// Prints until nothing is left or the stack is full. A parse with a budget also stops when its
+    /// fuel is used up. Returns what is left then.
     ///
-    /// Fails at the first piece that the limit or the sink rejects. A parse with a budget also fails
-    /// when its fuel is used up.
+    /// Fails at the first piece that the limit or the sink rejects.
     // All prints share this loop. With two, the compiler would put the continuations into neither.
     #[inline(never)]
     fn print_steps<S: TextSink>(
@@ -36,10 +38,10 @@ impl Parser<'_, '_> {
         requires ascii { IsAscii self.old.source.symbol.now }
         requires ready { Ready S.TextSink out.old }
         requires valid { IsValid self.old }
-        ensures ran { (has_budget ≡ true → IsOk result) → PrintsSteps S.TextSink self.old out.old result
-            self.new out.new }
+        ensures ran { PrintsSteps S.TextSink self.old out.old result self.new out.new }
         ensures ready { IsOk result → Ready S.TextSink out.new }
-        ensures valid { UnfinishedIsValid self.new.stack.room result self.new }
+        ensures valid { UnfinishedIsValid 0 result self.new }
+        ensures full { has_budget ≡ false → UnfinishedIsValid self.new.stack.room result self.new }
         ensures grows { self.old.looks ≤ self.new.looks }
         ensures least { has_budget ≡ false → self.old.looks + first_looks_of self.old ≤ self.new.looks +
             unfinished_looks result self.new }
@@ -49,18 +51,22 @@ impl Parser<'_, '_> {
     {
         let mut continuation = self.continuation;
         'steps: while self.stack.has_room() {
+            if !self.fuel.pay_step(has_budget) {
+                self.continuation = continuation;
+                return Ok(Some(Unfinished::Printing));
+            }
             let Some(at) = self.resume(0, continuation) else {
                 self.continuation = Continuation::End;
                 return Ok(None);
             };
-            if !self.fuel.pay_step(has_budget) {
-                return Err(SinkRefused);
-            }
             // An impl path only identifies the impl, and arguments may be folded. They are read and
             // not printed.
             if is_skipped(at, self.source.form) {
                 self.continuation = at;
-                if let Some(left) = self.skip_for_fuel(has_budget)? {
+                if !self.may_skip(has_budget) {
+                    return Ok(Some(Unfinished::Printing));
+                }
+                if let Some(left) = self.skip_for_fuel() {
                     return Ok(Some(left));
                 }
                 continuation = self.continuation;
@@ -192,92 +198,61 @@ impl Parser<'_, '_> {
         }
     }
 
-    /// Prints what is left within the budget, in a larger stack. Returns `true` if nothing is left.
+    /// Prints until nothing is left, the fuel is used up, or the stack is full. Returns what is left.
+    ///
+    /// Fails at the first piece that the limit or the sink rejects.
+    #[inline(always)]
+    pub(crate) fn print_within<S: TextSink>(
+        &mut self,
+        out: &mut SizeLimitedFmtAdapter<'_, S>,
+    ) -> Result<Option<Unfinished>, SinkRefused>
+        requires ascii { IsAscii self.old.source.symbol.now }
+        requires ready { Ready S.TextSink out.old }
+        requires valid { IsValid self.old }
+        ensures ran { PrintsSteps S.TextSink self.old out.old result self.new out.new }
+        ensures ready { IsOk result → Ready S.TextSink out.new }
+        ensures valid { UnfinishedIsValid 0 result self.new }
+        ensures grows { self.old.looks ≤ self.new.looks }
+        ensures paced { IsOk result → Paced 0 self.old self.new }
+        ensures most { self.new.looks ≤ most_looks self.old }
+        ensures same { Same self.old self.new }
+    {
+        self.print_steps(out, true)
+    }
+
+    /// Returns the place after a path that was printed within the budget. Returns `None` if anything
+    /// is left of it or no fuel is left, as after an error.
+    #[inline(always)]
+    pub(crate) fn end_within(&self, left: Option<Unfinished>) -> Option<usize>
+        ensures some { IfSome result (λ place. (left ≡ None) × (self.now.state.place ≡ Some place) × (0 <
+            self.now.fuel.left)) }
+    {
+        match left {
+            None if self.fuel.left > 0 => self.place(),
+            _ => None,
+        }
+    }
+
+    /// Prints what is left of a valid symbol, in larger stacks if this one is full. It counts no
+    /// looks, since printing makes as many as in other calls.
+    ///
+    /// Fails at the first piece that the limit or the sink rejects.
     #[inline(never)]
-    fn print_in_middle_stack_within<S: TextSink>(
+    pub(crate) fn print_validated<S: TextSink>(
         &mut self,
         out: &mut SizeLimitedFmtAdapter<'_, S>,
-    ) -> bool
+    ) -> Result<(), SinkRefused>
         requires ascii { IsAscii self.old.source.symbol.now }
         requires ready { Ready S.TextSink out.old }
         requires valid { IsValid self.old }
         requires smaller { self.old.stack.room ≤ MIDDLE_STACK }
-        ensures ran { IsTrue result → PrintsSteps S.TextSink self.old out.old (Ok None) self.new out.new }
-        ensures paced { IsTrue result → Paced 0 self.old self.new }
-        ensures most { self.new.looks ≤ most_looks self.old }
-        ensures grows { self.old.looks ≤ self.new.looks }
-        ensures same { Same self.old self.new }
+        ensures ended { PrintsApart S.TextSink self.old out.old result out.new }
+        ensures looks { self.new.looks ≡ self.old.looks }
     {
-        let mut memory = [UNUSED_FRAME; MIDDLE_STACK];
-        let mut parser = self.in_larger_stack(&mut memory);
-        let printed = parser.print_steps(out, true);
-        self.looks = parser.looks;
-        self.fuel = parser.fuel;
-        self.state = parser.state;
-        match printed {
-            Ok(None) => true,
-            Ok(Some(_)) | Err(_) => false,
-        }
-    }
-
-    /// Prints within the budget until nothing is left. Returns `true` if nothing is left.
-    ///
-    /// If the stack becomes full within a part that is not printed, no fuel is left.
-    #[inline(always)]
-    fn print_within<S: TextSink>(&mut self, out: &mut SizeLimitedFmtAdapter<'_, S>) -> bool
-        requires ascii { IsAscii self.old.source.symbol.now }
-        requires ready { Ready S.TextSink out.old }
-        requires valid { IsValid self.old }
-        requires smaller { self.old.stack.room ≤ MIDDLE_STACK }
-        ensures ran { IsTrue result → PrintsSteps S.TextSink self.old out.old (Ok None) self.new out.new }
-        ensures paced { IsTrue result → Paced 0 self.old self.new }
-        ensures most { self.new.looks ≤ most_looks self.old }
-        ensures grows { self.old.looks ≤ self.new.looks }
-        ensures same { Same self.old self.new }
-    {
-        match self.print_steps(out, true) {
-            Ok(None) => true,
-            Ok(Some(Unfinished::Printing)) => {
-                if self.fuel.left == 0 {
-                    return false;
-                }
-                self.print_in_middle_stack_within(out)
-            }
-            Ok(Some(Unfinished::ImplPath(_, _))) | Err(_) => false,
-        }
-    }
-
-    /// Prints until nothing is left, and leaves no frames. Returns the place after that.
-    ///
-    /// Returns `None` after a syntax error, if the limit or the sink rejects a piece, if two stacks
-    /// are full, or if the fuel is used up.
-    #[inline(always)]
-    pub(crate) fn print_to_place<S: TextSink>(
-        &mut self,
-        out: &mut SizeLimitedFmtAdapter<'_, S>,
-    ) -> Option<usize>
-        requires ascii { IsAscii self.old.source.symbol.now }
-        requires ready { Ready S.TextSink out.old }
-        requires valid { IsValid self.old }
-        requires smaller { self.old.stack.room ≤ MIDDLE_STACK }
-        ensures printed { IfSome result (λ place.
-            PrintsTo S.TextSink self.old out.old place self.new out.new) }
-        ensures empty { IfSome result (λ _. self.new.stack.frames ≡ []) }
-        ensures same { Same self.old self.new }
-        ensures grows { self.old.looks ≤ self.new.looks }
-        ensures most { self.new.looks ≤ self.old.looks + 4 * all_of self.old.fuel + 36 * (length
-            self.old.source.symbol.now + 1) + 3 }
-        ensures most_of_all { IfSome result (λ _. self.new.looks ≤ self.old.looks + 4 * all_of self.old.fuel + 4 *
-            length self.old.source.symbol.now) }
-    {
-        if !self.print_within(out) {
-            return None;
-        }
-        // Without fuel the looks are unknown.
-        if self.fuel.left == 0 {
-            return None;
-        }
-        self.stack.truncate(0);
-        self.place()
+        self.fuel = Fuel::none();
+        let counted = mem::replace(&mut self.looks, Looks::new());
+        let printed = self.print_path(out);
+        self.looks = counted;
+        printed
     }
 }

@@ -7,13 +7,15 @@ ghost use Rattle.demangle_v0.specs.Loops.{first_state};
 ghost use Rattle.demangle_v0_grammar.specs.Reading.{starts_second_path, path_texts, unit_end, suffix_place, read_at};
 ghost use Rattle.demangle_v0_grammar.specs.LookTotals.{allowed_in};
 ghost use Rattle.demangle_v0_grammar.specs.ValidationLooks.{looks_in, suffix_looks, accepting_looks};
-ghost use Rattle.demangle_sink.specs.Limit.{Prints, Ready};
+ghost use Rattle.demangle_sink.specs.Limit.{Ready};
+ghost use Rattle.demangle_v0.specs.Attempts.{PrintsIfPrinted, SuffixOf};
 
 use crate::fuel::Fuel;
 use crate::parser::Continuation;
 use crate::parser::frames::{FULL_STACK, MIDDLE_STACK, SHORT_STACK, UNUSED_FRAME};
 use crate::parser::machine::Parser;
 use crate::parser::steps::ReadOutcome;
+use crate::printer::Unfinished;
 use demangle_sink::{SizeLimitedFmtAdapter, TextSink};
 use demangle_symbol::cursor::{Looks, Symbol};
 use demangle_symbol::form::Form;
@@ -161,58 +163,119 @@ pub fn begins_path(symbol: &Symbol<'_>, place: usize, looks: &mut Looks) -> bool
     }
 }
 
-/// Prints the first path, at which the parser is, and reads a second one. Returns the place of the
-/// suffix after them, or `None` as `print_to_suffix` does.
+/// What is known of a symbol whose first path was printed before it was validated.
+#[derive(Clone, Copy)]
+pub enum Attempt {
+    /// The first path was printed, and the suffix begins at this place.
+    Printed(usize),
+    /// The suffix begins at this place. A part of the first path may be printed.
+    Read(usize),
+    /// A path has an error. A part of the first path may be printed.
+    NoPath,
+    /// The limit or the sink rejected a piece.
+    Unknown,
+}
+
+/// Returns whether a suffix may begin at a place: the end, or a `.`.
+fn may_begin_suffix(symbol: &Symbol<'_>, place: usize, looks: &mut Looks) -> bool
+    ensures grows { looks.old ≤ looks.new }
+    ensures most { looks.new ≤ looks.old + 1 }
+{
+    place == symbol.len() || symbol.is_at(b'.', place, looks)
+}
+
+/// Reads a second path after the first one, which was printed and ends at a place.
 #[inline(always)]
-fn printed_suffix<S: TextSink>(
+fn after_first_path(parser: &mut Parser<'_, '_>, end: usize) -> Attempt
+    requires first { Some end ≡ unit_end parser.old.source.symbol.now a_path 0 0 }
+    requires smaller { parser.old.stack.room ≤ MIDDLE_STACK }
+    ensures suffix { SuffixOf parser.old.source.symbol.now result }
+    ensures grows { parser.old.looks ≤ parser.new.looks }
+    ensures most { parser.new.looks ≤ parser.old.looks + 32 * (length parser.old.source.symbol.now + 1)
+        + 1 }
+{
+    if !begins_path(parser.source.symbol, end, &mut parser.looks) {
+        return Attempt::Printed(end);
+    }
+    // Arguments are folded only when they are printed.
+    parser.source.form.fold_arguments = false;
+    parser.stack.truncate(0);
+    match parser.path_end(end) {
+        Some(end) => Attempt::Printed(end),
+        None => Attempt::NoPath,
+    }
+}
+
+/// Prints the first path, at which the parser is, and reads a second one, as `print_to_suffix` does.
+#[inline(always)]
+fn printed_first<S: TextSink>(
     parser: &mut Parser<'_, '_>,
     out: &mut SizeLimitedFmtAdapter<'_, S>,
-) -> Option<usize>
+) -> Attempt
     requires ascii { IsAscii parser.old.source.symbol.now }
     requires ready { Ready S.TextSink out.old }
     requires path { parser.old.continuation ≡ Continuation.Path }
     requires state { parser.old.state ≡ first_state 0 }
     requires empty { parser.old.stack.frames ≡ [] }
     requires smaller { parser.old.stack.room ≤ MIDDLE_STACK }
-    ensures value { IfSome result (λ place. Some place ≡ suffix_place parser.old.source.symbol.now) }
-    ensures prints { IfSome result (λ _. Prints S.TextSink out.old (path_texts parser.old.source.symbol.now
-        parser.old.source.form) (Ok tt) out.new) }
+    ensures suffix { SuffixOf parser.old.source.symbol.now result }
+    ensures prints { PrintsIfPrinted S.TextSink out.old (path_texts parser.old.source.symbol.now
+        parser.old.source.form) result out.new }
     ensures grows { parser.old.looks ≤ parser.new.looks }
-    ensures most { parser.new.looks ≤ parser.old.looks + 4 * all_of parser.old.fuel + 36 * (length
-        parser.old.source.symbol.now + 1) + 3 }
+    ensures most { parser.new.looks ≤ parser.old.looks + 4 * all_of parser.old.fuel + 76 * (length
+        parser.old.source.symbol.now + 1) + 8 }
+    ensures early { result ≡ Attempt.Unknown → parser.new.looks ≤ parser.old.looks + 4 * all_of parser.old.fuel +
+        36 * (length parser.old.source.symbol.now + 1) + 7 }
 {
-    let end = parser.print_to_place(out)?;
-    if begins_path(parser.source.symbol, end, &mut parser.looks) {
-        // Arguments are folded only when they are printed.
-        parser.source.form.fold_arguments = false;
-        return parser.path_end(end);
+    let Ok(left) = parser.print_within(out) else {
+        return Attempt::Unknown;
+    };
+    if let Some(end) = parser.end_within(left) {
+        return after_first_path(parser, end);
     }
-    Some(end)
+    let Some(end) = suffix_at(parser.source.symbol, &mut parser.looks) else {
+        return Attempt::NoPath;
+    };
+    if !may_begin_suffix(parser.source.symbol, end, &mut parser.looks) {
+        return Attempt::Read(end);
+    }
+    let is_printed = match left {
+        None => true,
+        Some(Unfinished::Printing) => parser.print_validated(out).is_ok(),
+        Some(Unfinished::ImplPath(_, _)) => false,
+    };
+    if is_printed {
+        Attempt::Printed(end)
+    } else {
+        Attempt::Read(end)
+    }
 }
 
-/// Prints the first path of a symbol, and reads a second one. Returns the place of the suffix after
-/// them.
+/// Prints the first path of a symbol, and reads a second one. Returns what is known of the symbol
+/// then.
 ///
-/// Returns `None` after a syntax error, if the limit or the sink rejects a piece, if two stacks
-/// are too short, or if the path has too many steps for the length of the symbol. Then an unknown
-/// part of the path may be printed. In any case the looks are bounded by the length.
+/// The path is printed before it is known whether the symbol is valid, until the fuel is used up.
+/// Then the symbol is validated, and only the rest of a valid one is printed. The looks up to that
+/// are bounded by the length of the symbol, and by less if it was not validated.
 pub fn print_to_suffix<S: TextSink>(
     source: Source<'_>,
     out: &mut SizeLimitedFmtAdapter<'_, S>,
     looks: &mut Looks,
-) -> Option<usize>
+) -> Attempt
     requires ascii { IsAscii source.symbol.now }
     requires ready { Ready S.TextSink out.old }
-    ensures value { IfSome result (λ place. Some place ≡ suffix_place source.entry.symbol.now) }
-    ensures prints { IfSome result (λ _. Prints S.TextSink out.old (path_texts source.entry.symbol.now
-        source.entry.form) (Ok tt) out.new) }
+    ensures suffix { SuffixOf source.entry.symbol.now result }
+    ensures prints { PrintsIfPrinted S.TextSink out.old (path_texts source.entry.symbol.now
+        source.entry.form) result out.new }
     ensures grows { looks.old ≤ looks.new }
-    ensures most { looks.new ≤ looks.old + 136 * (length source.entry.symbol.now + 1) }
+    ensures most { looks.new ≤ looks.old + 184 * (length source.entry.symbol.now + 1) }
+    ensures early { result ≡ Attempt.Unknown → looks.new ≤ looks.old + 132 * (length
+        source.entry.symbol.now + 1) + 7 }
 {
     let mut memory = [UNUSED_FRAME; SHORT_STACK];
     let mut parser = Parser::at_path(source, 0, &mut memory, looks);
-    parser.fuel = Fuel::of(source.symbol.len());
-    let end = printed_suffix(&mut parser, out);
+    parser.fuel = Fuel::for_run(source.symbol.len());
+    let result = printed_first(&mut parser, out);
     *looks = parser.looks;
-    end
+    result
 }

@@ -50,7 +50,8 @@ impl<'s> Demangle<'s> {
         requires { Ready S.TextSink out.old }
         ensures prints { Prints S.TextSink out.old (path_texts self.now form) result out.new }
         ensures grows { looks.old ≤ looks.new }
-        ensures most { looks.new ≤ looks.old + 100000 * (kept (path_texts self.now form) out.old.remaining + 1) * (length self.now + 1) }
+        ensures most { looks.new ≤ looks.old
+            + 100000 * (kept (path_texts self.now form) out.old.remaining + 1) * (length self.now + 1) }
         ensures least { looks.old + 1 ≤ looks.new }
     {
         let source = Source {

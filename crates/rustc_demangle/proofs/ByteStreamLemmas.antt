@@ -1,5 +1,5 @@
 -- Any bytes, filtered in parts.
-use Rattle.std.proofs.Common.{◌≡◌, ℕ, zero, suc, ◌+◌, ◌-◌, ◌*◌, ◌<◌, ◌≤◌, ◌⊎◌, inl, inr, ◌&&◌, ◌||◌, Bool, true, false, eqb, eqb-true, eq-eqb, List, [], ◌∷◌, ◌++◌, length, take, drop, get_or, take_all, None, Some, IfSome, refl, sym, ap, subst, ◌∙◌, arith, append_assoc, append-nil, length-drop, length-append, codes}
+use Rattle.std.proofs.Common.{◌≡◌, ℕ, zero, ◌+◌, ◌-◌, ◌*◌, ◌<◌, ◌≤◌, ◌⊎◌, inl, inr, ◌&&◌, ◌||◌, Bool, true, false, eqb, eqb-true, eq-eqb, List, [], ◌∷◌, ◌++◌, length, take, drop, get_or, take_all, None, Some, IfSome, refl, sym, ap, subst, ◌∙◌, arith, append_assoc, append-nil, length-drop, length-append, codes}
 use Rattle.std.specs.List.{prefix_len, list_all}
 use Rattle.std.specs.Bool.{⊤}
 use Rattle.std.specs.declared.option.Option.{Option}
@@ -16,13 +16,12 @@ use Rattle.std.proofs.lemmas.List.Folds.{list_all-append}
 use Rattle.std.proofs.lemmas.Bool.{true≢false}
 use Rattle.std.proofs.lemmas.Bool.Decides.{nat_tests}
 use Rattle.rustc_demangle.specs.Filtered.{is_run_byte, starts_run, StartsOutsideRun}
-use Rattle.rustc_demangle.specs.Rewritten.{before_after, starts_underscored_run, starts_candidate, rewritten_by, EndsSingle, IsPlainLen}
+use Rattle.rustc_demangle.specs.Rewritten.{before_after, starts_underscored_run, starts_candidate, rewritten_by, IsPlainLen}
 use Rattle.rustc_demangle.specs.ByteStream.{Unwritten, unwritten, from_start, followed_by, SplitsNoCandidate, IsPartialRun, IsPartialCandidate, FilteredPrefix, StepFiltered, StepFinished, StepFailed, BytesStopped}
 use Rattle.rustc_demangle.specs.declared.byte_before.ByteBefore.{ByteBefore}
 use Rattle.rustc_demangle.specs.declared.byte_before.ByteBefore.TheVariants.{Outside, Alphanumeric, Mark}
 use Rattle.rustc_demangle.specs.declared.stream.fault.StreamFault.{StreamFault}
 use Rattle.rustc_demangle.specs.declared.stream.fault.StreamFault.TheVariants.{Read, NotUtf8, Write, Memory}
-use Rattle.rustc_demangle.proofs.RunLemmas.{begins_with}
 use Rattle.rustc_demangle.proofs.Searches.{no_mark}
 use Rattle.rustc_demangle.proofs.RunStarts.{all_prefix, all_of_prefix, after_prefix, far, and_left, and_right}
 use Rattle.rustc_demangle.proofs.CandidateLemmas.{or_false, candidate_more, candidate_cases, candidate_of, candidate_some, candidate_prefix, run_candidate, before_after-append, rewritten_nothing, rewritten_candidate, rewritten_split, rewritten_plain, HasNoCandidate, cuts_plain, plain_of}
@@ -110,13 +109,6 @@ passed_prefix f held left prefix old new e last stop wrote = record {
   uncut = λ plain run same some all begins. stop;
   wrote = wrote;
 }
-
--- the partial candidates that are candidates
-open_run : (s : List ℕ) → IsPartialRun s → starts_run s ≡ true → list_all is_run_byte s ≡ true
-open_run s (inl e) some = absurd (true≢false (sym some ∙ ap starts_run e))
-open_run s (inr (inl e)) some = absurd (true≢false (sym some ∙ ap starts_run e))
-open_run s (inr (inr (inl e))) some = absurd (true≢false (sym some ∙ ap starts_run e))
-open_run s (inr (inr (inr run))) some = run.1
 
 partial_all : (s : List ℕ) → IsPartialRun s → list_all is_run_byte s ≡ true
 partial_all s (inl e) = ap (list_all is_run_byte) e

@@ -1,5 +1,5 @@
 -- Candidates of a text, and a text that is rewritten in parts.
-use Rattle.std.proofs.Common.{◌≡◌, ℕ, zero, suc, ◌+◌, ◌-◌, ◌<◌, ◌≤◌, ◌⊎◌, inl, inr, ◌&&◌, ◌||◌, Bool, true, false, eqb, eqb-true, cond, List, [], ◌∷◌, ◌++◌, length, take, drop, get_or, refl, sym, ap, subst, ◌∙◌, arith, append_assoc, append-nil, length-append, take_all, codes, nat_eq}
+use Rattle.std.proofs.Common.{◌≡◌, ℕ, zero, suc, ◌+◌, ◌-◌, ◌<◌, ◌≤◌, ◌⊎◌, inl, inr, ◌&&◌, ◌||◌, Bool, true, false, eqb, eqb-true, cond, List, [], ◌∷◌, ◌++◌, length, take, drop, get_or, refl, sym, ap, subst, ◌∙◌, arith, append_assoc, append-nil, length-append, take_all, codes}
 use Rattle.std.specs.List.{prefix_len, take_while, list_all}
 use Rattle.std.proofs.Math.Seq.{drop-cons, take-append_seam}
 use Rattle.std.proofs.lemmas.List.{take-append-le, take-append-drop, drop_all}
@@ -7,12 +7,12 @@ use Rattle.std.proofs.lemmas.List.Sums.{prefix_len-le-length, take_while-cons}
 use Rattle.std.proofs.lemmas.List.Folds.{prefix_len-append}
 use Rattle.std.proofs.lemmas.Bool.{true≢false}
 use Rattle.rustc_demangle.specs.Filtered.{is_run_byte, starts_run, StartsOutsideRun}
-use Rattle.rustc_demangle.specs.Rewritten.{before_of, before_after, starts_underscored_run, starts_candidate, rewritten_by, EndsSingle, IsPlainLen}
+use Rattle.rustc_demangle.specs.Rewritten.{before_of, before_after, starts_underscored_run, starts_candidate, rewritten_by, EndsSingle}
 use Rattle.rustc_demangle.specs.ByteStream.{SplitsNoCandidate}
 use Rattle.rustc_demangle.specs.declared.byte_before.ByteBefore.{ByteBefore}
 use Rattle.rustc_demangle.specs.declared.byte_before.ByteBefore.TheVariants.{Outside, Alphanumeric, Mark}
-use Rattle.rustc_demangle.proofs.RunLemmas.{begins_with, first_of_run, run_some}
-use Rattle.rustc_demangle.proofs.RunStarts.{begins_more, begins_less, begins_never, begins_prefix, all_of_prefix, prefix_of_all, no_prefix, and_left, and_right}
+use Rattle.rustc_demangle.proofs.RunLemmas.{first_of_run, run_some}
+use Rattle.rustc_demangle.proofs.RunStarts.{begins_more, begins_prefix, all_of_prefix, prefix_of_all, no_prefix, and_left, and_right}
 
 or_true : (b : Bool) → (b || true) ≡ true
 or_true true = refl

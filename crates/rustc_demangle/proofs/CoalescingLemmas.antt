@@ -5,7 +5,7 @@ use Rattle.rustc_demangle.specs.declared.coalescing.CoalescingSink.{CoalescingSi
 use Rattle.rustc_demangle.specs.Coalescing.{Joins, PassedOn}
 
 -- the held bytes were passed on, and then a piece alone
-pub passed_on_alone : {S : Type 0} (took : S → List ℕ → S → Type 0) → Joins took → (s t : CoalescingSink S) (at : S) (piece : List ℕ)
+pub passed_on_alone : {S : Type 0} {most : ℕ} (took : S → List ℕ → S → Type 0) → Joins took → (s t : CoalescingSink S most) (at : S) (piece : List ℕ)
     → t.out.ghost_name ≡ s.out.ghost_name → took s.out.now s.held.bytes at → took at piece t.out.now → t.held.bytes ≡ []
     → PassedOn took s piece t
 passed_on_alone took joined s t at piece same first second empty = record {
@@ -16,7 +16,7 @@ passed_on_alone took joined s t at piece same first second empty = record {
 }
 
 -- bytes were put after nothing was held, and then all that was held was passed on
-pub all_passed_on : {S : Type 0} (took : S → List ℕ → S → Type 0) → Joins took → (s t : CoalescingSink S) (new : S) (bytes : List ℕ)
+pub all_passed_on : {S : Type 0} {most : ℕ} (took : S → List ℕ → S → Type 0) → Joins took → (s t : CoalescingSink S most) (new : S) (bytes : List ℕ)
     → s.held.bytes ≡ [] → PassedOn took s bytes t → took t.out.now t.held.bytes new → took s.out.now bytes new
 all_passed_on took joined s t new bytes empty put flushed =
     subst (λ z. took s.out.now z new) (sym put.whole ∙ ap (λ z. z ++ bytes) empty)

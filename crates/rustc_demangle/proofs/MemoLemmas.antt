@@ -21,10 +21,6 @@ symbol_replaced run symbol format same is =
 pub run_kept : (run symbol : List ℕ) (format : Format) → symbol ≡ stripped run → (IsSymbol symbol → ⊥) → run ≡ replacement_in format run
 run_kept run symbol format same other = sym (replacement_in-no_symbol format run (λ is. other (subst IsSymbol (sym same) is)))
 
--- the same for the value of a memo
-pub at_value : (run text : List ℕ) (format value : Format) → format ≡ value → text ≡ replacement_in format run → text ≡ replacement_in value run
-at_value run text format value same is = subst (λ (v : Format). text ≡ replacement_in v run) same is
-
 -- a step with a memo of the same value
 pub took_same : (m n : Format) (pending next : Unwritten) (left rest old new : Option (List ℕ)) → m ≡ n → StepFiltered (rewritten_after m) pending next left rest old new
     → StepFiltered (rewritten_after n) pending next left rest old new

@@ -15,7 +15,7 @@ use Rattle.demangle_v0_grammar.specs.Reading.{form, path_texts}
 use Rattle.demangle_v0_grammar.specs.V0.{IsV0Prefix, v0_inner}
 use Rattle.demangle_v0_grammar.proofs.V0Reading.{v0_is_read, ascii_all, all_ascii, prefix_inner}
 use Rattle.rustc_demangle.specs.PathEnds.{path_len_of, v0_ascii, handed_with_path_len}
-use Rattle.rustc_demangle.specs.Style.{HasNoStyle, HasStyle, style_pieces}
+use Rattle.rustc_demangle.specs.Style.{HasStyle, style_pieces}
 use Rattle.rustc_demangle.specs.Symbols.{IsSymbol, pieces_of, handed, unfolded}
 use Rattle.rustc_demangle.specs.declared.value.DemangleStyle.{DemangleStyle}
 use Rattle.rustc_demangle.proofs.PrintingLaws.{handed-some_of, size-cut}
@@ -27,9 +27,6 @@ path_len-some text pieces suffix e = ap (λ o. option_map_or (λ (r : List (List
 
 pub path_len-styled : (text : List ℕ) (style : DemangleStyle) (suffix : List ℕ) → HasStyle text style suffix → path_len_of text ≡ length text - length suffix
 path_len-styled text style suffix has = path_len-some text (style_pieces (form true false) style) suffix (styled-pieces (form true false) text style suffix has)
-
-pub path_len-unstyled : (text : List ℕ) → HasNoStyle text → path_len_of text ≡ 0
-path_len-unstyled text none = ap (λ o. option_map_or (λ (r : List (List ℕ) × List ℕ). length text - length r.1) o 0) (none (form true false))
 
 -- a prefix is not empty
 legacy_prefix-len : (p : List ℕ) → IsLegacyPrefix p → 0 < length p

@@ -1,8 +1,7 @@
 -- The computed output of a text is the only text that its division into runs gives.
-use Rattle.std.proofs.Common.{◌≡◌, ℕ, zero, suc, ◌+◌, ◌-◌, ◌<◌, ◌≤◌, ◌⊎◌, inl, inr, ◌&&◌, ◌||◌, Bool, true, false, eqb, eqb-true, cond, List, [], ◌∷◌, ◌++◌, length, take, drop, get_or, refl, sym, ap, subst, ◌∙◌, arith, append_assoc, append-nil, length-append, length-drop, codes}
-use Rattle.std.proofs.Math.Seq.{drop-cons, take-append_seam, drop-append_seam}
+use Rattle.std.proofs.Common.{◌≡◌, ℕ, zero, suc, ◌+◌, ◌-◌, ◌<◌, ◌⊎◌, inl, inr, ◌&&◌, ◌||◌, Bool, true, false, eqb, eqb-true, cond, List, [], ◌∷◌, ◌++◌, length, take, drop, get_or, refl, sym, ap, subst, ◌∙◌, arith, append_assoc, append-nil, length-append, length-drop, codes}
+use Rattle.std.proofs.Math.Seq.{drop-cons, drop-append_seam}
 use Rattle.std.proofs.lemmas.List.{take-append-drop, drop-append-le, drop_all}
-use Rattle.std.proofs.lemmas.List.Sums.{take_while-cons}
 use Rattle.std.proofs.lemmas.Bool.{true≢false}
 use Rattle.std.specs.Char.{is_ascii_alphanumeric}
 use Rattle.std.specs.Prelude.{flat_map}
@@ -10,7 +9,7 @@ use Rattle.std.specs.List.{prefix_len, take_while, list_all, concat}
 use Rattle.std.proofs.lemmas.List.Folds.{list_all-append}
 use Rattle.rustc_demangle.specs.Lines.{lines, line_feeds, AreLines}
 use Rattle.rustc_demangle.specs.ByteStream.{SplitsNoCandidate}
-use Rattle.rustc_demangle.specs.Filtered.{is_run_byte, starts_run, HasNoStart, StartsOutsideRun, IsRun, IsReplacement, replacement}
+use Rattle.rustc_demangle.specs.Filtered.{is_run_byte, starts_run, HasNoStart, StartsOutsideRun, IsRun, replacement}
 use Rattle.rustc_demangle.specs.Symbols.{unfolded, most_bytes}
 use Rattle.rustc_demangle.specs.Rewritten.{before_of, before_after, starts_candidate, replacement_after, rewritten_by, rewritten, EndsSingle, EndsAlphanumeric, EndsOutside, IsReplacementAfter, AreRewritten, IsRewritten}
 use Rattle.rustc_demangle.specs.declared.format.Format.{Format}

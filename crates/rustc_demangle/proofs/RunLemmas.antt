@@ -5,8 +5,7 @@ use Rattle.std.specs.Option.{option_map_or}
 use Rattle.std.specs.Str.{IsUtf8, IsCharBoundary}
 use Rattle.std.proofs.lemmas.Bool.Decides.{nat_tests, Decides-eqb}
 use Rattle.std.proofs.lemmas.Slice.Eq.{starts_is}
-use Rattle.std.proofs.lemmas.Str.{IsCharBoundary-before_ascii, IsCharBoundary-after_ascii}
-use Rattle.std.proofs.lemmas.List.{get_or-drop}
+use Rattle.std.proofs.lemmas.Str.{IsCharBoundary-after_ascii}
 use Rattle.std.proofs.lemmas.List.Sums.{prefix_len_passes, prefix_len-le-length}
 use Rattle.rustc_demangle.specs.Stripped.{stripped}
 use Rattle.rustc_demangle.specs.Symbols.{IsSymbol, form_of, pieces_in, handed_in, unfolded, printed, most_bytes}
@@ -65,13 +64,6 @@ filtered_run f (c ∷ s) some =
     let first : c ≡ 95 = first_of_run (c ∷ s) some in
     let count : prefix_len is_run_byte (c ∷ s) ≡ suc (prefix_len is_run_byte s) = ap (λ b. cond b (1 + prefix_len is_run_byte s) 0) (ap is_run_byte first) ∙ omega arith in
     filtered_first f c s some ∙ ap (λ n. f (take n (c ∷ s)) ++ filtered_by f zero (drop n (c ∷ s))) (sym count)
-
--- A line may be split before a run and after it.
-pub cut_before : (s : List ℕ) (n : ℕ) → n < length s → starts_run (drop n s) ≡ true → IsCharBoundary s n
-cut_before s n lt some =
-    let at : n + 0 ≡ n = omega arith in
-    let first : get_or s n 0 ≡ 95 = ap (λ k. get_or s k 0) (sym at) ∙ sym (get_or-drop n s 0 0) ∙ first_of_run (drop n s) some in
-    IsCharBoundary-before_ascii s n lt (omega (arith, first))
 
 pub run_ascii : (c : ℕ) → is_run_byte c ≡ true → c < 128
 run_ascii c is = grind (arith, nat_tests)

@@ -1,5 +1,5 @@
 -- Where runs start, and what they have.
-use Rattle.std.proofs.Common.{◌≡◌, ℕ, zero, suc, ◌+◌, ◌-◌, ◌<◌, ◌≤◌, ◌⊎◌, inl, inr, ◌&&◌, ◌||◌, Bool, true, false, eqb, eqb-true, cond, List, [], ◌∷◌, ◌++◌, length, take, drop, get_or, refl, sym, ap, subst, ◌∙◌, arith, length-drop, codes, nat_eq}
+use Rattle.std.proofs.Common.{◌≡◌, ℕ, zero, suc, ◌+◌, ◌-◌, ◌<◌, ◌≤◌, inl, inr, ◌&&◌, ◌||◌, Bool, true, false, eqb, eqb-true, cond, List, [], ◌∷◌, ◌++◌, length, take, drop, get_or, refl, sym, ap, subst, ◌∙◌, arith, length-drop, codes, nat_eq}
 use Rattle.std.specs.List.{prefix_len, take_while, list_all, starts_with}
 use Rattle.std.specs.Cmp.Lexicographic.{pointwise}
 use Rattle.std.specs.Str.{IsUtf8}
@@ -17,13 +17,6 @@ begins_more s t some = elim ((begins_with s some).1) [
   | inl e ↦ ap (λ l. starts_run (l ++ t)) e
   | inr e ↦ ap (λ l. starts_run (l ++ t)) e
 ]
-
-pub begins_less : (s t : List ℕ) → starts_run (s ++ t) ≡ false → starts_run s ≡ false
-begins_less s t none = at (starts_run s) refl
-  where
-    at : (b : Bool) → starts_run s ≡ b → starts_run s ≡ false
-    at true e = absurd (true≢false (sym (begins_more s t e) ∙ none))
-    at false e = e
 
 -- two bytes that start no run, and are not `_Z`
 two : (c d : ℕ) (more : List ℕ) → starts_run (c ∷ d ∷ []) ≡ false → ((c ∷ d ∷ []) ≡ codes "_Z" → ⊥) → starts_run (c ∷ d ∷ more) ≡ false

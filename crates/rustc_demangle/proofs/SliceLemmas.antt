@@ -1,5 +1,5 @@
 -- Bytes that are written to memory in sequence.
-use Rattle.std.proofs.Common.{◌≡◌, ℕ, zero, ◌+◌, ◌<◌, ◌≤◌, List, [], ◌∷◌, ◌++◌, length, take, drop, Result, Ok, Err, IsOk, IsErr, OnOk, OnErr, true, false, refl, sym, ap, subst, ◌∙◌, arith, append_assoc, append-nil}
+use Rattle.std.proofs.Common.{◌≡◌, ℕ, zero, ◌<◌, ◌≤◌, List, [], ◌∷◌, ◌++◌, length, take, drop, Result, Ok, Err, IsOk, IsErr, OnOk, OnErr, true, false, refl, sym, ap, subst, ◌∙◌, arith, append_assoc, append-nil}
 use Rattle.std.specs.List.{concat, prefix_len, list_all}
 use Rattle.std.proofs.lemmas.Bool.{false≢true}
 use Rattle.std.proofs.lemmas.List.{take-append-drop}
@@ -12,7 +12,7 @@ use Rattle.demangle_sink.specs.Sink.{IsWithin, room_after}
 use Rattle.demangle_sink.specs.PutsPieces.{PutsPieces}
 use Rattle.demangle_sink.specs.Slice.{WrittenPart-nothing, WrittenPart-joined}
 use Rattle.demangle_sink.specs.Writes.{Writes}
-use Rattle.demangle_sink.proofs.PutsPiecesLemmas.{puts_put, puts_nothing, puts_then, puts_stop}
+use Rattle.demangle_sink.proofs.PutsPiecesLemmas.{puts_put, puts_then, puts_stop}
 use Rattle.demangle_sink.proofs.Writing.{puts_writes}
 use Rattle.rustc_demangle.specs.Filtered.{is_run_byte, replacement_in, starts_run, StartsOutsideRun}
 use Rattle.rustc_demangle.specs.Rewritten.{before_after, starts_candidate, replacement_after, rewritten_by, IsPlainLen}
@@ -49,10 +49,6 @@ pub candidate_puts : {S : Type 0} (sink : Ghosts S) (format : Format) (before : 
 candidate_puts sink format Outside old run result new not p = p
 candidate_puts sink format Alphanumeric old run result new not p = absurd (not refl)
 candidate_puts sink format Mark old run result new not p = p
-
--- a text that was put at once
-pub text_put : {S : Type 0} (sink : Ghosts S) (old : S) (text : List ℕ) (result : Result (Unit {0}) SinkRefused) (new : S) → PutsPieces sink old (text ∷ []) result new → PutsText sink old text result new
-text_put sink old text result new p = (text ∷ [], append-nil text, p)
 
 -- after a letter or digit it is put as it is
 pub kept_puts : {S : Type 0} (sink : Ghosts S) (format : Format) (before : ByteBefore) (old : S) (run : List ℕ) (result : Result (Unit {0}) SinkRefused) (new : S) → before ≡ Alphanumeric
@@ -96,9 +92,6 @@ rewritten_all f rest none =
 -- the pieces of a text that were put, and the rest of the text
 abbrev pub Rewriting : {S : Type 0} → Ghosts S → (ByteBefore → List ℕ → List ℕ) → List ℕ → S → S → List ℕ → Type 0
 Rewriting sink f text old new rest = (done : List (List ℕ)) × PutsPieces sink old done (Ok tt) new × (rewritten_by f zero Outside text ≡ concat done ++ rewritten_by f zero Outside rest)
-
-pub rewriting_init : {S : Type 0} (sink : Ghosts S) (f : ByteBefore → List ℕ → List ℕ) (text : List ℕ) (old : S) → sink.failed old ≡ false → Rewriting sink f text old old text
-rewriting_init sink f text old not_failed = ([], puts_nothing sink old not_failed, refl)
 
 puts_ok : {S : Type 0} (sink : Ghosts S) (old new : S) (list : List (List ℕ)) (r : Result (Unit {0}) SinkRefused) → PutsPieces sink old list r new → IsOk r → PutsPieces sink old list (Ok tt) new
 puts_ok sink old new list (Ok u) p ok = record { all = λ _. p.all refl; refused = λ e. absurd (false≢true e); fits = p.fits }

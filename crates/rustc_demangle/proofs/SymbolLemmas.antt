@@ -18,11 +18,6 @@ use Rattle.rustc_demangle.specs.declared.value.DemangleStyle.TheVariants.{Legacy
 use Rattle.demangle_legacy.proofs.LegacyLaws.{legacy_no_prefix, legacy_read, legacy_spelled}
 use Rattle.demangle_v0_grammar.proofs.V0Reading.{read_is_v0, v0_is_read}
 
--- a text without a style is one piece
-pub handed-none : (text : List ℕ) (format : Format) → HasNoStyle text → handed_in text format ≡ text ∷ []
-handed-none text format none =
-    ap (λ read. option_map_or (λ (r : List (List ℕ) × List ℕ). cut r.0 format.limit ++ r.1 ∷ []) read (text ∷ [])) (none (form_of format))
-
 pub styled-none : (style : Option DemangleStyle) (text suffix : List ℕ) → IsStyled style text suffix → style ≡ None → HasNoStyle text
 styled-none style text suffix is e = subst (λ s. IsStyled s text suffix) e is
 

@@ -4,7 +4,7 @@ use Rattle.std.specs.Prelude.{◌≡◌, ℕ, true, false, List, [], ◌∷◌, 
 use Rattle.std.specs.List.{concat}
 use Rattle.std.specs.Char.{encode_utf8}
 use Rattle.demangle_symbol.specs.Digits.{number}
-use Rattle.rustc_demangle.specs.Filtered.{by_runs, filtered_by, filtered}
+use Rattle.rustc_demangle.specs.Filtered.{by_runs, filtered}
 use Rattle.demangle_legacy.specs.Legacy.{inner_of, element_of, parts_within, parts_of, legacy_of}
 use Rattle.rustc_demangle.specs.Lines.{lines}
 use Rattle.rustc_demangle.specs.Stripped.{stripped, is_allowed}

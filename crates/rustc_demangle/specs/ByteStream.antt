@@ -84,9 +84,9 @@ abbrev pub StepFiltered : (ByteBefore → List ℕ → List ℕ) → Unwritten �
 StepFiltered filter pending next left rest old new = IfSome left (λ xs. (ys : List ℕ) × (rest ≡ Some ys) × FilteredPrefix filter (followed_by pending xs) (followed_by next ys) old new
     × (length next.bytes + 2 * length ys < length pending.bytes + 2 * length xs))
 
--- the input was at its end, and the pending text was filtered
+-- the input was at its end, the pending text was filtered, and the filter is as a new one
 abbrev pub StepFinished : (ByteBefore → List ℕ → List ℕ) → Unwritten → Unwritten → Option (List ℕ) → Option (List ℕ) → Option (List ℕ) → Option (List ℕ) → Type 0
-StepFinished filter pending next left rest old new = IfSome left (λ xs. (xs ≡ []) × (rest ≡ Some [])) × (next.bytes ≡ []) × Appends old new (filter pending.before pending.bytes)
+StepFinished filter pending next left rest old new = IfSome left (λ xs. (xs ≡ []) × (rest ≡ Some [])) × (next ≡ from_start []) × Appends old new (filter pending.before pending.bytes)
 
 -- After an error, the writer appended the filtered form of a prefix that is not cut inside a candidate. Nothing is
 -- promised after an error of the writer.

@@ -6,21 +6,21 @@ use Rattle.std.proofs.lemmas.List.{append-nil, append_assoc}
 use Rattle.rustc_demangle.specs.declared.coalescing.CoalescingSink.{CoalescingSink}
 
 -- the bytes followed what was held; a prefix of both was passed on, and the rest is held
-pub record PassedOn {S : Type 0} (took : S → List ℕ → S → Type 0) (old : CoalescingSink S) (bytes : List ℕ) (new : CoalescingSink S) : Type 0 where
+pub record PassedOn {S : Type 0} {most : ℕ} (took : S → List ℕ → S → Type 0) (old : CoalescingSink S most) (bytes : List ℕ) (new : CoalescingSink S most) : Type 0 where
   pub same_sink : new.out.ghost_name ≡ old.out.ghost_name
   pub passed : List ℕ
   pub passed_on : took old.out.now passed new.out.now
   pub whole : old.held.bytes ++ bytes ≡ passed ++ new.held.bytes
 
-pub PassedOn-nothing : {S : Type 0} (took : S → List ℕ → S → Type 0) → ((s : S) → took s [] s) → (s : CoalescingSink S) → PassedOn took s [] s
+pub PassedOn-nothing : {S : Type 0} {most : ℕ} (took : S → List ℕ → S → Type 0) → ((s : S) → took s [] s) → (s : CoalescingSink S most) → PassedOn took s [] s
 PassedOn-nothing took nothing s = record { same_sink = refl; passed = []; passed_on = nothing s.out.now; whole = append-nil s.held.bytes }
 
 -- the second law of a sink
 abbrev pub Joins : {S : Type 0} → (S → List ℕ → S → Type 0) → Type 0
 Joins {S} took = (s t u : S) (xs ys : List ℕ) → took s xs t → took t ys u → took s (xs ++ ys) u
 
-pub PassedOn-joined : {S : Type 0} (took : S → List ℕ → S → Type 0) → Joins took
-    → (s t u : CoalescingSink S) (xs ys : List ℕ) → PassedOn took s xs t → PassedOn took t ys u → PassedOn took s (xs ++ ys) u
+pub PassedOn-joined : {S : Type 0} {most : ℕ} (took : S → List ℕ → S → Type 0) → Joins took
+    → (s t u : CoalescingSink S most) (xs ys : List ℕ) → PassedOn took s xs t → PassedOn took t ys u → PassedOn took s (xs ++ ys) u
 PassedOn-joined took joined s t u xs ys h k = record {
   same_sink = k.same_sink ∙ h.same_sink;
   passed = h.passed ++ k.passed;

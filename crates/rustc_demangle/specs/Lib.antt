@@ -41,3 +41,4 @@ pub use Rattle.demangle_v0_grammar.specs.ValidationLooks
 pub mod Style
 pub mod PutsText
 pub mod Coalescing
+pub mod Tried

@@ -22,7 +22,10 @@ impl ByteBefore {
     fn of(byte: u8) -> Self
         ensures { result ≡ before_of byte }
     {
-        if byte.is_ascii_alphanumeric() {
+        // Most text before a run ends with a space.
+        if byte <= b' ' {
+            ByteBefore::Outside
+        } else if byte.is_ascii_alphanumeric() {
             ByteBefore::Alphanumeric
         } else if is_run_byte(byte) {
             ByteBefore::Mark

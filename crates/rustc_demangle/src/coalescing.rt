@@ -1,29 +1,34 @@
 //! A sink that passes pieces on together.
 ghost use Rattle.std.specs.Prelude.{◌≡◌, [], Some, true, false, OnOk, OnErr};
 ghost use Rattle.rustc_demangle.specs.Coalescing.{PassedOn, PassedOn-nothing, PassedOn-joined};
-ghost use Rattle.rustc_demangle.specs.Symbols.{printed};
+ghost use Rattle.std.specs.List.{concat};
+ghost use Rattle.rustc_demangle.specs.Symbols.{handed_in, printed};
 
+use crate::format::Format;
 use crate::value::Demangle;
 use arrayvec::ArrayString;
 use demangle_sink::{SinkRefused, TextSink};
 
-/// The most bytes that are held.
-const MOST_HELD: usize = 256;
+/// The most bytes that are held for a formatter.
+const MOST_FORMATTED: usize = 256;
 
-/// Holds pieces, and passes them to a sink together.
+/// The most bytes that are held for a filter, which are those of the longest text of its memo.
+const MOST_FILTERED: usize = 2048;
+
+/// Holds pieces of up to `MOST` bytes, and passes them to a sink together.
 ///
 /// The sink gets the held text before a piece that does not fit after it, and by `flush`. A piece of
-/// more than `MOST_HELD` bytes is passed on alone. So what the sink got is always a prefix of the
-/// text that ends between two pieces, and after `flush` it is all of it.
+/// more than `MOST` bytes is passed on alone. So what the sink got is always a prefix of the text that
+/// ends between two pieces, and after `flush` it is all of it.
 #[derive(Drop)]
-pub(crate) struct CoalescingSink<'s, S: TextSink> {
+struct CoalescingSink<'s, S: TextSink, const MOST: usize> {
     out: &'s mut S,
-    held: ArrayString<MOST_HELD>,
+    held: ArrayString<MOST>,
 }
 
-impl<'s, S: TextSink> CoalescingSink<'s, S> {
+impl<'s, S: TextSink, const MOST: usize> CoalescingSink<'s, S, MOST> {
     /// Returns a sink that passes pieces to this one. It holds nothing.
-    pub(crate) fn new(out: &'s mut S) -> Self
+    fn new(out: &'s mut S) -> Self
         ensures same_sink { result.out.ghost_name ≡ out.entry.ghost_name }
         ensures text { result.out.now ≡ out.old }
         ensures empty { result.held.bytes ≡ [] }
@@ -39,7 +44,7 @@ impl<'s, S: TextSink> CoalescingSink<'s, S> {
     /// # Errors
     ///
     /// Returns `SinkRefused` if the sink rejects it.
-    pub(crate) fn flush(&mut self) -> Result<(), SinkRefused>
+    fn flush(&mut self) -> Result<(), SinkRefused>
         requires { S.failed self.old.out.now ≡ false }
         ensures same_sink { self.new.out.ghost_name ≡ self.old.out.ghost_name }
         ensures took { OnOk result
@@ -65,7 +70,7 @@ impl<'s, S: TextSink> CoalescingSink<'s, S> {
         ensures refused { OnErr result (S.failed self.new.out.now ≡ true) }
     {
         self.flush()?;
-        if s.len() > MOST_HELD {
+        if s.len() > MOST {
             self.out.put(s)?;
         } else {
             self.held.push_str(s);
@@ -74,7 +79,7 @@ impl<'s, S: TextSink> CoalescingSink<'s, S> {
     }
 }
 
-impl<'s, S: TextSink> TextSink for CoalescingSink<'s, S> {
+impl<'s, S: TextSink, const MOST: usize> TextSink for CoalescingSink<'s, S, MOST> {
     ghost took = { λ s bytes t. PassedOn S.took s bytes t };
 
     ghost failed = { λ s. S.failed s.out.now };
@@ -114,7 +119,27 @@ pub(crate) fn write_coalesced<S: TextSink>(
     requires { S.failed out.old ≡ false }
     ensures text { OnOk result (S.took out.old (printed symbol.now include_hash) out.new) }
 {
-    let mut pieces = CoalescingSink::new(out);
+    let mut pieces = CoalescingSink::<'_, S, MOST_FORMATTED>::new(out);
     symbol.write_to(&mut pieces, include_hash)?;
+    pieces.flush()
+}
+
+/// Prints a symbol into a sink in a format, and passes its pieces on together. A text of up to 2,048
+/// bytes is passed on at once.
+///
+/// # Errors
+///
+/// Returns `SinkRefused` if the sink rejects a text. It then got a prefix of the pieces' text.
+#[tactic(auto, using(crate::proofs::CoalescingLemmas::all_passed_on))]
+pub(crate) fn write_at_once<S: TextSink>(
+    symbol: &Demangle<'_>,
+    out: &mut S,
+    format: Format,
+) -> Result<(), SinkRefused>
+    requires { S.failed out.old ≡ false }
+    ensures text { OnOk result (S.took out.old (concat (handed_in symbol.now format)) out.new) }
+{
+    let mut pieces = CoalescingSink::<'_, S, MOST_FILTERED>::new(out);
+    symbol.write_formatted(&mut pieces, format)?;
     pieces.flush()
 }

@@ -10,7 +10,6 @@ mod coalescing;
 mod display;
 mod format;
 pub mod laws;
-mod printed_first;
 mod runs;
 pub mod sink;
 mod slice;

@@ -8,6 +8,7 @@ use std::{io, str};
 
 mod buffer_sink;
 mod bytes;
+mod credit;
 mod fault;
 mod line_reader;
 mod line_writer;

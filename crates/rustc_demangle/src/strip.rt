@@ -6,7 +6,7 @@ ghost use Rattle.rustc_demangle.specs.Stripped.{stripped, is_thin_lto};
 use memchr::memrchr;
 
 /// The most bytes at the end of a text that are read one by one.
-const MAX_TAIL: usize = 16;
+const MAX_TAIL: usize = 4;
 
 /// Returns whether this byte may follow `.llvm.`.
 #[inline(always)]

@@ -154,29 +154,42 @@ fn read_style<'a>(
     }
 }
 
-/// Returns the style and the suffix of a text, or `None` if it is not a symbol.
-fn style_of<'a>(
-    text: &'a str,
-    is_ascii: bool,
-    looks: &mut Looks,
-) -> Option<(DemangleStyle<'a>, &'a str)>
-    requires { IsTrue is_ascii → IsAscii text.now }
-    ensures some { IfSome result (λ r. HasStyle text.now r.0 r.1.now) }
-    ensures none { IfNone result (HasNoStyle text.now) }
-    ensures grows { looks.old ≤ looks.new }
-    ensures most { looks.new ≤ looks.old + 61 * (length text.now + 1) }
-    ensures least { is_ascii ≡ false →
-        IfSome result (λ _. looks.old + (length text.now - 4) ≤ looks.new) }
-{
-    let (style, suffix) = read_style(text, is_ascii, looks)?;
-    if is_allowed(suffix, looks) {
-        Some((style, suffix))
-    } else {
-        None
-    }
-}
-
 impl<'a> Demangle<'a> {
+    /// Returns a text that is not a symbol.
+    pub(crate) fn without_style(text: &'a str) -> Demangle<'a>
+        requires { HasNoStyle text.now }
+        ensures { result ≡ text.now }
+    {
+        Demangle {
+            style: None,
+            original: text,
+            suffix: "",
+        }
+    }
+
+    /// Returns the symbol that a scheme parses a text to, or the text as it is if the suffix is not
+    /// allowed.
+    pub(crate) fn with_style(
+        text: &'a str,
+        style: DemangleStyle<'a>,
+        suffix: &'a str,
+        allowed: bool,
+    ) -> Demangle<'a>
+        requires read { IsReadAs text.now style suffix.now }
+        requires inner { style_len style ≤ length text.now }
+        requires allowed { allowed ≡ is_allowed suffix.now }
+        ensures { result ≡ text.now }
+    {
+        if !allowed {
+            return Demangle::without_style(text);
+        }
+        Demangle {
+            style: Some(style),
+            original: text,
+            suffix,
+        }
+    }
+
     /// Parses a text as a symbol, and keeps it as it is if it is not one. `is_ascii` says that it
     /// is known to be ASCII.
     pub(crate) fn read(text: &'a str, is_ascii: bool, looks: &mut Looks) -> Demangle<'a>
@@ -187,18 +200,11 @@ impl<'a> Demangle<'a> {
         ensures least { is_ascii ≡ false → IsSymbol text.now →
             looks.old + (length text.now - 4) ≤ looks.new }
     {
-        match style_of(text, is_ascii, looks) {
-            Some((style, suffix)) => Demangle {
-                style: Some(style),
-                original: text,
-                suffix,
-            },
-            None => Demangle {
-                style: None,
-                original: text,
-                suffix: "",
-            },
-        }
+        let Some((style, suffix)) = read_style(text, is_ascii, looks) else {
+            return Demangle::without_style(text);
+        };
+        let allowed = is_allowed(suffix, looks);
+        Demangle::with_style(text, style, suffix, allowed)
     }
 
     /// Parses a run as a symbol, and counts its looks. Keeps it as it is if it is not one. A run is

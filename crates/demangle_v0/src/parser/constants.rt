@@ -16,8 +16,7 @@ use demangle_v0_tokens::tags::{ConstantKind, constant_kind};
 use demangle_v0_tokens::token::TokenKind;
 
 impl Parser<'_, '_> {
-    /// Reads and prints a string, with which the constant ends. It leaves no fuel, because its
-    /// characters are slow to print.
+    /// Reads and prints a string, with which the constant ends.
     #[inline(never)]
     pub(super) fn literal<V: Output>(&mut self, output: &mut V) -> Result<Continuation, StepError>
         requires can_step { CanPrint V.Output self.old output.old }
@@ -26,7 +25,6 @@ impl Parser<'_, '_> {
             self.old.state.place }
         ensures paced { IsOk result → Paced 8 self.old self.new }
     {
-        self.fuel.use_up();
         self.end_with_token(TokenKind::StrLiteral, output)
     }
 
@@ -86,23 +84,25 @@ impl Parser<'_, '_> {
         self.number(output)
     }
 
-    /// Reads a string, or starts a shared reference, after its `R`.
+    /// Starts a string or a shared reference, after its `R`.
     #[inline(always)]
-    fn shared_reference<V: Output>(&mut self, output: &mut V) -> Result<Continuation, StepError>
-        requires can_step { CanPerform V.Output Continuation.Constant self.old output.old }
-        ensures performs { PerformedRest V.Output (shared_constant self.old.state.in_value) 6 6 9 self.old
-            output.old result self.new output.new }
-        ensures paced { IsOk result → Paced 20 self.old self.new }
+    fn shared_reference(&mut self) -> Continuation
+        requires can_step { CanAdvance Continuation.Constant self.old }
+        ensures performs { AdvancedRest (shared_constant self.old.state.in_value) 6 6 9 self.old (Ok result)
+            self.new }
+        ensures paced { Paced 20 self.old self.new }
     {
         let Some(at) = self.state.place else {
-            return Ok(self.with_braces(Continuation::ReferenceConstant));
+            return self.with_braces(Continuation::ReferenceConstant);
         };
         // `Re` is printed as `".."`, which has the type `&str`, and not as `&*".."`.
         if self.source.symbol.is_at(b'e', at, &mut self.looks) {
             self.state.place = Some(at + 1);
-            return self.literal(output);
+            // The characters of a string are slow to print.
+            self.fuel.use_up();
+            return Continuation::StrLiteral;
         }
-        Ok(self.with_braces(Continuation::ReferenceConstant))
+        self.with_braces(Continuation::ReferenceConstant)
     }
 
     /// Starts the path of a variant, after its `V`.
@@ -144,8 +144,12 @@ impl Parser<'_, '_> {
             ConstantKind::Signed => self.signed_number(tag, output),
             ConstantKind::Bool => self.end_with_token(TokenKind::Bool, output),
             ConstantKind::Char => self.end_with_token(TokenKind::Character, output),
-            ConstantKind::Text => Ok(self.with_braces(Continuation::StrConstant)),
-            ConstantKind::Shared => self.shared_reference(output),
+            ConstantKind::Text => {
+                // The characters of a string are slow to print.
+                self.fuel.use_up();
+                Ok(self.with_braces(Continuation::StrConstant))
+            }
+            ConstantKind::Shared => Ok(self.shared_reference()),
             ConstantKind::Mut => Ok(self.with_braces(Continuation::MutReferenceConstant)),
             ConstantKind::Array => Ok(self.with_braces(Continuation::ArrayConstant)),
             ConstantKind::Tuple => Ok(self.with_braces(Continuation::TupleConstant)),
@@ -165,6 +169,7 @@ impl Parser<'_, '_> {
         let (tag, next) = self.source.symbol.tag(at, &mut self.looks)?;
         // Every constant raises the depth, even a number or a placeholder. A basic type does not.
         self.enter()?;
+        self.fuel.spend();
         self.state.place = Some(next);
         self.tagged_constant(tag, output)
     }

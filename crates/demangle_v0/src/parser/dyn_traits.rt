@@ -59,8 +59,9 @@ impl Parser<'_, '_> {
     #[inline(always)]
     pub(super) fn dyn_trait(&mut self, is_first: bool) -> Continuation
         requires can_step { CanAdvance Continuation.NextDynTrait self.old }
-        ensures performs { Advanced (if is_first then Continuation.FirstDynTrait else Continuation.NextDynTrait) self.old
-            (Ok result) self.new }
+        ensures performs { Advanced
+            (if is_first then Continuation.FirstDynTrait else Continuation.NextDynTrait)
+            self.old (Ok result) self.new }
         ensures own_looks { self.new.looks ≤ self.old.looks + looks_bound 16 self.old.source.symbol.now
             self.old.state.place }
         ensures paced { Paced 16 self.old self.new }

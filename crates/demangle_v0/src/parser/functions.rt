@@ -43,6 +43,7 @@ impl Parser<'_, '_> {
         ensures paced { IsOk result → Paced 16 self.old self.new }
     {
         let at = self.state.place_or_abort()?;
+        self.fuel.spend();
         let (number, next) = self
             .source
             .symbol
@@ -87,8 +88,9 @@ impl Parser<'_, '_> {
     #[inline(always)]
     pub(super) fn parameter(&mut self, is_first: bool) -> Continuation
         requires can_step { CanAdvance Continuation.NextParameter self.old }
-        ensures performs { Advanced (if is_first then Continuation.FirstParameter else Continuation.NextParameter) self.old
-            (Ok result) self.new }
+        ensures performs { Advanced
+            (if is_first then Continuation.FirstParameter else Continuation.NextParameter)
+            self.old (Ok result) self.new }
         ensures paced { Paced 20 self.old self.new }
     {
         if self.ends_list() {

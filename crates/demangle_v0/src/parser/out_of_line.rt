@@ -34,7 +34,8 @@ impl Parser<'_, '_> {
         output: &mut V,
     ) -> Result<Continuation, StepError>
         requires can_step { CanPerform V.Output (out_of_line_continuation continuation) self.old output.old }
-        ensures performs { Performed V.Output (out_of_line_continuation continuation) self.old output.old result self.new output.new }
+        ensures performs { Performed V.Output (out_of_line_continuation continuation) self.old output.old result
+            self.new output.new }
         ensures paced { IsOk result → Paced 20 self.old self.new }
     {
         match continuation {
@@ -59,7 +60,8 @@ impl Parser<'_, '_> {
         output: &mut V,
     ) -> Result<Continuation, StepError>
         requires can_step { CanPerform V.Output (out_of_line_continuation continuation) self.old output.old }
-        ensures performs { Performed V.Output (out_of_line_continuation continuation) self.old output.old result self.new output.new }
+        ensures performs { Performed V.Output (out_of_line_continuation continuation) self.old output.old result
+            self.new output.new }
         ensures paced { IsOk result → Paced 20 self.old self.new }
     {
         // A copy: the results of other continuations need not be where this call writes its own.

@@ -104,10 +104,10 @@ impl Parser<'_, '_> {
     /// which is removed, or `None` if only `base` frames are left.
     #[inline(always)]
     pub(crate) fn resume(&mut self, base: usize, continuation: Continuation) -> Option<Continuation>
-        ensures some { IfSome result (λ next. ResumesAt base continuation self.old.state self.old.stack.frames next
-            self.new.state self.new.stack.frames) }
-        ensures none { IfNone result ((continuation ≡ Continuation.End) × (length self.old.stack.frames ≤ base) × (self.new
-            ≡ self.old)) }
+        ensures some { IfSome result (λ next. ResumesAt base continuation self.old.state
+            self.old.stack.frames next self.new.state self.new.stack.frames) }
+        ensures none { IfNone result ((continuation ≡ Continuation.End)
+            × (length self.old.stack.frames ≤ base) × (self.new ≡ self.old)) }
         ensures same { Same self.old self.new }
         ensures looks { self.new.looks ≡ self.old.looks }
         ensures fuel { self.new.fuel ≡ self.old.fuel }

@@ -36,8 +36,9 @@ impl Parser<'_, '_> {
         output: &mut V,
     ) -> Result<Continuation, StepError>
         requires can_step { CanPerform V.Output Continuation.«Type» self.old output.old }
-        ensures performs { Performed V.Output (if may_have_splat then Continuation.«Type» else Continuation.TaggedType) self.old
-            output.old result self.new output.new }
+        ensures performs { Performed V.Output
+            (if may_have_splat then Continuation.«Type» else Continuation.TaggedType)
+            self.old output.old result self.new output.new }
         ensures paced { IsOk result → Paced 20 self.old self.new }
     {
         let Some(at) = self.state.place else {

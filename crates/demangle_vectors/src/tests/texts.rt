@@ -1,5 +1,5 @@
 //! Tests of texts and bytes in memory, which are written to sinks and slices.
-use super::stream::ROWS;
+use super::stream::{EACH_RUN, ROWS};
 use rustc_demangle::sink::{ArraySink, TextSink};
 use rustc_demangle::{demangle_slice, demangle_text, demangle_text_limited, run_len, run_start};
 use std::process::Abort;
@@ -9,7 +9,7 @@ use test_doubles::RefusingSink;
 
 #[test]
 fn a_text_is_put_into_a_sink(rt: HostRuntime) -> Result<(), Fail> {
-    for (text, wanted) in ROWS {
+    for (text, wanted) in ROWS.iter().chain(EACH_RUN.iter()) {
         let text = str::from_utf8(text)?;
         for include_hash in [true, false] {
             let mut sink: ArraySink<256> = ArraySink::new();
@@ -17,7 +17,7 @@ fn a_text_is_put_into_a_sink(rt: HostRuntime) -> Result<(), Fail> {
                 demangle_text(text, &mut sink, include_hash).is_ok(),
                 "{text}"
             );
-            assert_eq!(rt; sink.as_str().as_bytes(), wanted, "{text}");
+            assert_eq!(rt; sink.as_str().as_bytes(), *wanted, "{text}");
         }
     }
     Ok(())

@@ -3,13 +3,14 @@ ghost use Rattle.std.specs.Prelude.{◌≡◌, ◌+◌, ◌*◌, ◌≤◌, leng
 ghost use Rattle.std.specs.Io.KnownBytes.{Appends};
 ghost use Rattle.std.specs.List.{concat, list_all};
 ghost use Rattle.rustc_demangle.specs.Filtered.{filtered, is_run_byte, replacement_in};
+ghost use Rattle.rustc_demangle.specs.Stripped.{stripped};
 ghost use Rattle.rustc_demangle.specs.Symbols.{handed_in};
 
+use crate::coalescing::write_at_once;
 use crate::format::Format;
 use crate::text::demangle_text;
 use crate::value::Demangle;
 use demangle_sink::WriteSink;
-use demangle_symbol::cursor::Looks;
 use std::io;
 use std::io::Write;
 
@@ -27,6 +28,25 @@ fn write_symbol<W: Write>(symbol: &Demangle<'_>, output: &mut W, format: Format)
     }
 }
 
+/// Writes a symbol, by one call of the writer if its text has up to 2,048 bytes. A longer text is
+/// written in parts. Fails if the writer fails.
+fn write_symbol_at_once<W: Write>(
+    symbol: &Demangle<'_>,
+    output: &mut W,
+    format: Format,
+) -> io::Result<()>
+    ensures { OnOk result (Appends (W.contents output.old) (W.contents output.new)
+        (concat (handed_in symbol.now format))) }
+{
+    let mut sink = WriteSink::new(output);
+    let written = write_at_once(symbol, &mut sink, format);
+    match sink.into_fault() {
+        Some(error) => Err(error),
+        // If it fails, the sink holds the writer's error.
+        None => written.map_err(|_| io::Error::other("the sink failed")),
+    }
+}
+
 /// Writes a run that is not a symbol, by one call of the writer. Fails if the writer fails.
 fn write_text<W: Write>(text: &str, output: &mut W) -> io::Result<()>
     ensures { OnOk result (Appends (W.contents output.old) (W.contents output.new) text.now) }
@@ -34,31 +54,46 @@ fn write_text<W: Write>(text: &str, output: &mut W) -> io::Result<()>
     output.write_all(text.as_bytes())
 }
 
-/// Writes the replacement of a run: the printed symbol, or the run itself if it is not a symbol.
-/// Fails if the writer fails.
+/// Writes the replacement of a run that was read: the printed symbol, or the run itself if it is not a
+/// symbol. Either is one call of the writer if it has up to 2,048 bytes. Fails if the writer fails.
+pub(super) fn write_read_at_once<W: Write>(
+    symbol: &Demangle<'_>,
+    run: &str,
+    output: &mut W,
+    format: Format,
+) -> io::Result<()>
+    requires { symbol.now ≡ stripped run.now }
+    ensures { OnOk result (Appends (W.contents output.old) (W.contents output.new)
+        (replacement_in format run.now)) }
+{
+    if symbol.has_style() {
+        write_symbol_at_once(symbol, output, format)
+    } else {
+        write_text(run, output)
+    }
+}
+
+/// Writes the replacement of a run, as `write_read_at_once` does. Fails if the writer fails.
+pub(super) fn write_run_at_once<W: Write>(
+    run: &str,
+    output: &mut W,
+    format: Format,
+) -> io::Result<()>
+    requires { list_all is_run_byte run.now ≡ true }
+    ensures { OnOk result (Appends (W.contents output.old) (W.contents output.new)
+        (replacement_in format run.now)) }
+{
+    write_read_at_once(&Demangle::read_run(run), run, output, format)
+}
+
+/// Writes the replacement of a run: the printed symbol, with a write for each piece, or the run itself
+/// if it is not a symbol. Fails if the writer fails.
 pub(super) fn write_run<W: Write>(run: &str, output: &mut W, format: Format) -> io::Result<()>
     requires { list_all is_run_byte run.now ≡ true }
     ensures { OnOk result (Appends (W.contents output.old) (W.contents output.new)
         (replacement_in format run.now)) }
 {
-    write_run_counted(run, output, format, &mut Looks::new())
-}
-
-/// Writes the replacement of a run as `write_run` does, and counts the looks that decide whether it
-/// is a symbol.
-pub(super) fn write_run_counted<W: Write>(
-    run: &str,
-    output: &mut W,
-    format: Format,
-    looks: &mut Looks,
-) -> io::Result<()>
-    requires { list_all is_run_byte run.now ≡ true }
-    ensures text { OnOk result (Appends (W.contents output.old) (W.contents output.new)
-        (replacement_in format run.now)) }
-    ensures grows { looks.old ≤ looks.new }
-    ensures most { looks.new ≤ looks.old + 61 * (length run.now + 1) }
-{
-    let symbol = Demangle::read_run_counted(run, looks);
+    let symbol = Demangle::read_run(run);
     if symbol.has_style() {
         write_symbol(&symbol, output, format)
     } else {

@@ -1,16 +1,19 @@
 //! Remembers the symbols that a filter printed.
-ghost use Rattle.std.specs.Prelude.{◌≡◌, ◌+◌, ◌*◌, ◌<◌, ◌≤◌, [], true, length, IsTrue, OnOk};
+ghost use Rattle.std.specs.Prelude.{◌≡◌, ◌+◌, ◌*◌, ◌<◌, ◌≤◌, [], true, length, IfNone, IfSome, IsTrue, OnOk};
 ghost use Rattle.std.specs.List.{concat, list_all};
 ghost use Rattle.std.specs.Io.KnownBytes.{Appends};
 ghost use Rattle.rustc_demangle.specs.Filtered.{is_run_byte, replacement_in};
+ghost use Rattle.rustc_demangle.specs.Stripped.{stripped};
 ghost use Rattle.rustc_demangle.specs.Symbols.{handed_in, unfolded};
+ghost use Rattle.rustc_demangle.specs.Tried.{IsRunRead};
 ghost use Rattle.text_memo.specs.Memo.{Remembers, IsSmall};
 
 use crate::format::Format;
 use crate::stream::buffer_sink::BufferSink;
-use crate::stream::line_writer::{write_run, write_run_counted};
+use crate::stream::credit::{Credit, starts_as_v0};
+use crate::stream::line_writer::{write_read_at_once, write_run, write_run_at_once};
 use crate::value::Demangle;
-use crate::value::printing::{print_legacy_run, print_v0_run};
+use crate::value::printing::{Tried, print_legacy_run, print_v0_run};
 use demangle_symbol::cursor::Looks;
 use piece_buffer::PieceBuffer;
 use std::alloc::Global;
@@ -28,6 +31,13 @@ const MAX_MISSES: u32 = 4096;
 
 /// The number of runs for which a memo stays off.
 const PAUSE: u32 = 32_768;
+
+/// The most bytes of a run that is printed before it is known to be a symbol. Of the symbols that are
+/// longer, many have so many references that they are validated in any case.
+const MOST_PRINTED: usize = 384;
+
+/// The same if arguments are folded. Then no reference in them is followed.
+const MOST_FOLDED: usize = 768;
 
 /// A counter that turns a memo off for a while if few symbols repeat.
 #[derive(Clone, Copy)]
@@ -64,11 +74,13 @@ impl Probe {
     }
 }
 
-/// The texts that are remembered, and the last one that was printed for them.
+/// The texts that are remembered, the last one that was printed for them, and whether runs are
+/// printed first.
 #[derive(Drop)]
 struct Store {
     texts: TextMemo,
     printed: PieceBuffer,
+    credit: Credit,
 }
 
 /// A memo of printed symbols, with which a filter does not parse a repeated symbol again.
@@ -106,29 +118,32 @@ fn print_to_buffer(symbol: &Demangle<'_>, held: &mut PieceBuffer, format: Format
     symbol.write_formatted(&mut sink, format).is_ok()
 }
 
-/// Returns whether a run, or a run with the `_` before it, starts as a v0 symbol.
+/// Prints a run into the buffer before it is known to be a symbol, and counts the looks up to that.
+/// Returns what is known of it then. Unless it was printed, the buffer may have a part of it.
 #[inline(always)]
-fn starts_as_v0(run: &[u8]) -> bool {
-    (run.len() > 2) && ((run[1] == b'R') | ((run[1] == b'_') & (run[2] == b'R')))
-}
-
-/// Prints a symbol into the buffer before it is known whether the run is one, and counts its looks.
-/// Returns `false` if that is still unknown, or if the buffer has no room for the text. Then the
-/// buffer may have a part of it.
-#[inline(always)]
-fn print_first(run: &str, held: &mut PieceBuffer, format: Format, looks: &mut Looks) -> bool
+fn print_first<'a>(
+    run: &'a str,
+    held: &mut PieceBuffer,
+    format: Format,
+    looks: &mut Looks,
+) -> Tried<'a>
     requires run { list_all is_run_byte run.now ≡ true }
     requires some { 1 < length run.now }
-    ensures printed { IsTrue result → held.new ≡ replacement_in format run.now }
+    ensures printed { result ≡ Tried.Printed → held.new ≡ replacement_in format run.now }
+    ensures read { IsRunRead run.now result }
     ensures grows { looks.old ≤ looks.new }
-    ensures most { looks.new ≤ looks.old + 139 * (length run.now + 1) }
+    ensures most { looks.new ≤ looks.old + 195 * (length run.now + 1) }
+    ensures early { result ≡ Tried.Unknown → looks.new ≤ looks.old + 133 * (length run.now + 1) + 8 }
 {
     held.clear();
     let mut sink = BufferSink::new(held);
     if starts_as_v0(run.as_bytes()) {
-        print_v0_run(run, &mut sink, format, looks)
+        return print_v0_run(run, &mut sink, format, looks);
+    }
+    if print_legacy_run(run, &mut sink, format, looks) {
+        Tried::Printed
     } else {
-        print_legacy_run(run, &mut sink, format, looks)
+        Tried::Unknown
     }
 }
 
@@ -159,8 +174,77 @@ fn is_looked_up(run: &[u8]) -> bool
         | run[end - 1].is_ascii_digit()
 }
 
+impl Store {
+    /// Prints a run into the buffer if it is not too long and runs are printed first. Otherwise it
+    /// reads the run. Counts the looks that decide whether it is a symbol: their bound is linear in
+    /// its length. Returns what the run was read as, or `None` if it was printed.
+    #[inline(always)]
+    fn print_or_read<'a>(
+        &mut self,
+        run: &'a str,
+        format: Format,
+        looks: &mut Looks,
+    ) -> Option<Demangle<'a>>
+        requires run { list_all is_run_byte run.now ≡ true }
+        requires some { 1 < length run.now }
+        ensures printed { IfNone result (self.new.printed ≡ replacement_in format run.now) }
+        ensures read { IfSome result (λ symbol. symbol ≡ stripped run.now) }
+        ensures texts { self.new.texts ≡ self.old.texts }
+        ensures grows { looks.old ≤ looks.new }
+        ensures most { looks.new ≤ looks.old + 200 * (length run.now + 1) }
+    {
+        let most = if format.fold_arguments {
+            MOST_FOLDED
+        } else {
+            MOST_PRINTED
+        };
+        if run.len() > most || !self.credit.is_given() {
+            let symbol = Demangle::read_run_counted(run, looks);
+            if symbol.has_style() {
+                self.credit.gain();
+            }
+            return Some(symbol);
+        }
+        let symbol = match print_first(run, &mut self.printed, format, looks) {
+            Tried::Printed => return None,
+            Tried::Read(symbol) => symbol,
+            Tried::Unknown => Demangle::read_run_counted(run, looks),
+        };
+        if !symbol.has_style() {
+            self.credit.lose(run);
+        }
+        Some(symbol)
+    }
+
+    /// Prints a run that was read, and remembers its text, or that it is too long.
+    fn print_read(&mut self, symbol: &Demangle<'_>, run: &str, hash: u64, format: Format) -> Printed
+        requires read { symbol.now ≡ stripped run.now }
+        requires remembers { Remembers (replacement_in format) self.old.texts }
+        ensures symbol { result ≡ Printed.Symbol →
+            self.new.printed ≡ replacement_in format run.now }
+        ensures no_symbol { result ≡ Printed.NoSymbol →
+            run.now ≡ replacement_in format run.now }
+        ensures remembers { Remembers (replacement_in format) self.new.texts }
+        ensures small { IsSmall self.old.texts → IsSmall self.new.texts }
+    {
+        if !symbol.has_style() {
+            let kept = run.as_bytes();
+            self.texts.insert(kept, kept, hash);
+            return Printed::NoSymbol;
+        }
+        self.printed.clear();
+        if !print_to_buffer(symbol, &mut self.printed, format) {
+            self.texts.note_too_long(hash);
+            return Printed::TooLong;
+        }
+        self.texts
+            .insert(run.as_bytes(), self.printed.as_slice(), hash);
+        Printed::Symbol
+    }
+}
+
 /// Prints a run, and remembers its text, or that it is too long. Counts the looks that decide
-/// whether it is a symbol: those at a run that is no symbol are bounded by its length.
+/// whether it is a symbol: their bound is linear in its length.
 #[inline(never)]
 fn print_new(run: &str, hash: u64, format: Format, store: &mut Store, looks: &mut Looks) -> Printed
     requires run { list_all is_run_byte run.now ≡ true }
@@ -173,24 +257,10 @@ fn print_new(run: &str, hash: u64, format: Format, store: &mut Store, looks: &mu
     ensures remembers { Remembers (replacement_in format) store.new.texts }
     ensures small { IsSmall store.old.texts → IsSmall store.new.texts }
     ensures grows { looks.old ≤ looks.new }
-    ensures most { looks.new ≤ looks.old + (139 + 61) * (length run.now + 1) }
+    ensures most { looks.new ≤ looks.old + 200 * (length run.now + 1) }
 {
-    if print_first(run, &mut store.printed, format, looks) {
-        store
-            .texts
-            .insert(run.as_bytes(), store.printed.as_slice(), hash);
-        return Printed::Symbol;
-    }
-    let symbol = Demangle::read_run_counted(run, looks);
-    if !symbol.has_style() {
-        let kept = run.as_bytes();
-        store.texts.insert(kept, kept, hash);
-        return Printed::NoSymbol;
-    }
-    store.printed.clear();
-    if !print_to_buffer(&symbol, &mut store.printed, format) {
-        store.texts.note_too_long(hash);
-        return Printed::TooLong;
+    if let Some(symbol) = store.print_or_read(run, format, looks) {
+        return store.print_read(&symbol, run, hash, format);
     }
     store
         .texts
@@ -217,6 +287,7 @@ impl SymbolMemo {
             store: Store {
                 texts: TextMemo::new(alloc),
                 printed: PieceBuffer::new(),
+                credit: Credit::new(),
             },
             probe: Probe {
                 misses: 0,
@@ -247,12 +318,12 @@ impl SymbolMemo {
             (replacement_in self.old run.now)) }
         ensures same { self.new ≡ self.old }
         ensures grows { looks.old ≤ looks.new }
-        ensures most { looks.new ≤ looks.old + (139 + 61) * (length run.now + 1) }
+        ensures most { looks.new ≤ looks.old + 200 * (length run.now + 1) }
     {
-        if print_first(run, &mut self.store.printed, self.format, looks) {
-            return output.write_all(self.store.printed.as_slice());
+        match self.store.print_or_read(run, self.format, looks) {
+            Some(symbol) => write_read_at_once(&symbol, run, output, self.format),
+            None => output.write_all(self.store.printed.as_slice()),
         }
-        write_run_counted(run, output, self.format, looks)
     }
 
     /// Writes the text of a run that is not in the memo. The text is remembered if the run came
@@ -268,13 +339,13 @@ impl SymbolMemo {
         match self.store.texts.note(hash) {
             Noted::Again => {}
             Noted::New => return self.write_once(run, output, &mut Looks::new()),
-            Noted::TooLong => return write_run(run, output, self.format),
+            Noted::TooLong => return write_run_at_once(run, output, self.format),
         }
         let mut looks = Looks::new();
         match print_new(run, hash, self.format, &mut self.store, &mut looks) {
             Printed::Symbol => output.write_all(self.store.printed.as_slice()),
             Printed::NoSymbol => output.write_all(run.as_bytes()),
-            Printed::TooLong => write_run(run, output, self.format),
+            Printed::TooLong => write_run_at_once(run, output, self.format),
         }
     }
 

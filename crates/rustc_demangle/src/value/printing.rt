@@ -7,6 +7,7 @@ ghost use Rattle.rustc_demangle.specs.Filtered.{is_run_byte, replacement_in};
 ghost use Rattle.rustc_demangle.specs.PathEnds.{handed_with_path_len};
 ghost use Rattle.rustc_demangle.specs.Stripped.{stripped};
 ghost use Rattle.rustc_demangle.specs.Style.{style_pieces, style_looks, style_least};
+ghost use Rattle.rustc_demangle.specs.Tried.{IsRunRead};
 ghost use Rattle.rustc_demangle.specs.Symbols.{folded, form_of, handed, handed_in, most_bytes, PrintingLooks, PrintingLooksIn};
 ghost use Rattle.demangle_sink.specs.Writes.{Writes};
 
@@ -15,6 +16,7 @@ use crate::strip::without_thin_lto;
 use crate::value::{Demangle, DemangleStyle, MAX_SIZE, is_allowed};
 use demangle_sink::{SinkRefused, SizeLimitedFmtAdapter, TextSink, put_piece};
 use demangle_symbol::cursor::Looks;
+use demangle_v0::Printed;
 
 /// Prints a symbol without its suffix into a sink, cut at the limit. Fails if the sink fails.
 fn write_cut<S: TextSink>(
@@ -210,6 +212,9 @@ const TIMES_RUN: usize = 4;
 
 const MORE_TEXT: usize = 64;
 
+/// The most bytes of the path of any run that is printed at once.
+const MOST_TEXT: usize = 1600;
+
 /// Returns the most bytes of the path of a run that is printed at once.
 #[inline(always)]
 fn text_limit(run: &str, format: Format) -> usize
@@ -219,37 +224,70 @@ fn text_limit(run: &str, format: Format) -> usize
         .len()
         .saturating_mul(TIMES_RUN)
         .saturating_add(MORE_TEXT);
-    format.limit.min(most)
+    format.limit.min(most.min(MOST_TEXT))
 }
 
-/// Prints a run that is a v0 symbol, in one pass over its first path, and counts its looks. A run
-/// is ASCII.
+/// What is known of a run that was printed before it was known to be a symbol.
+#[derive(Drop)]
+pub(crate) enum Tried<'a> {
+    /// The run is a symbol, and its text was printed.
+    Printed,
+    /// The run was read as this text, symbol or not. A part of a path may be printed.
+    Read(Demangle<'a>),
+    /// Nothing is known, and a part of a path may be printed. `Demangle::read_run` says what the run
+    /// is.
+    Unknown,
+}
+
+/// Prints a v0 run before it is known to be a symbol, as `demangle_v0::demangle_printed` does, and
+/// counts the looks up to the end of its validation. A run is ASCII. Returns what is known of it
+/// then.
 ///
-/// Returns `false` if the run is not a v0 symbol, as `demangle_v0::demangle_printed` does, or if the
-/// path is much longer than the run. Then an unknown part of the symbol may be in the sink, and
-/// `Demangle::read_run` says what the run is.
+/// Nothing is known of a path that is much longer than the run.
 #[inline(never)]
-pub(crate) fn print_v0_run<S: TextSink>(
-    run: &str,
+pub(crate) fn print_v0_run<'a, S: TextSink>(
+    run: &'a str,
     out: &mut S,
     format: Format,
     looks: &mut Looks,
-) -> bool
+) -> Tried<'a>
     requires run { list_all is_run_byte run.now ≡ true }
     requires not_failed { S.failed out.old ≡ false }
-    ensures took { IsTrue result →
+    ensures took { result ≡ Tried.Printed →
         S.took out.old (replacement_in format run.now) out.new }
+    ensures read { IsRunRead run.now result }
     ensures grows { looks.old ≤ looks.new }
-    ensures most { looks.new ≤ looks.old + 139 * (length run.now + 1) }
+    ensures most { looks.new ≤ looks.old + 195 * (length run.now + 1) }
+    ensures early { result ≡ Tried.Unknown → looks.new ≤ looks.old + 133 * (length run.now + 1) + 8 }
 {
     let text = without_thin_lto(run);
     let limit = text_limit(run, format);
     let mut limited = SizeLimitedFmtAdapter::new(out, limit);
-    let read = demangle_v0::demangle_printed(text, &mut limited, format.form(), looks);
-    let Some((_, suffix)) = read else {
-        return false;
-    };
-    is_allowed(suffix, looks) && put_piece(suffix, out).is_ok()
+    match demangle_v0::demangle_printed(text, &mut limited, format.form(), looks) {
+        Printed::Symbol(symbol, suffix) => {
+            let allowed = is_allowed(suffix, looks);
+            if allowed && put_piece(suffix, out).is_ok() {
+                return Tried::Printed;
+            }
+            let style = DemangleStyle::V0(symbol);
+            Tried::Read(Demangle::with_style(text, style, suffix, allowed))
+        }
+        Printed::Part(symbol, suffix) => {
+            let allowed = is_allowed(suffix, looks);
+            let style = DemangleStyle::V0(symbol);
+            Tried::Read(Demangle::with_style(text, style, suffix, allowed))
+        }
+        // A text with the prefix of v0 has not that of the legacy scheme, so this ends at once.
+        Printed::NoSymbol => match demangle_legacy::demangle(text, true, looks) {
+            Ok((symbol, suffix)) => {
+                let allowed = is_allowed(suffix, looks);
+                let style = DemangleStyle::Legacy(symbol);
+                Tried::Read(Demangle::with_style(text, style, suffix, allowed))
+            }
+            Err(()) => Tried::Read(Demangle::without_style(text)),
+        },
+        Printed::Unknown => Tried::Unknown,
+    }
 }
 
 /// Prints a run that is a legacy symbol, in one pass, and counts its looks. A run is ASCII.

@@ -1,8 +1,8 @@
-use Rattle.std.proofs.Common.{◌≡◌, List, ℕ, Result, subst}
+use Rattle.std.proofs.Common.{List, ℕ, subst}
 use Rattle.demangle_sink.specs.contracts.slice_sink.SliceSinkTextSink.TheImpl.{ghosts}
 use Rattle.rustc_demangle.specs.Filtered.{replacement_in}
 use Rattle.rustc_demangle.specs.PutsText.{PutsText}
-use Rattle.rustc_demangle.proofs.SliceLemmas.{slice_puts, candidate_puts, kept_puts}
+use Rattle.rustc_demangle.proofs.SliceLemmas.{slice_puts, candidate_puts, kept_puts, pieces_put}
 use Rattle.rustc_demangle.proofs.slice.put_candidate.Goals as goal
 
 pub returns-then-is_alphanumeric : goal.returns-then-is_alphanumeric
@@ -13,4 +13,4 @@ returns-then-is_alphanumeric c =
 pub returns : goal.returns
 returns c =
     candidate_puts ghosts c.args.format _ _ _ _ _ (c.is_alphanumeric.ensures.no c.if-is_alphanumeric.false)
-    (subst (λ (run : List ℕ). PutsText ghosts c.args.out.now (replacement_in c.args.format run) c.put_run_first.result c.put_run_first.new.out) c.run_text.ensures c.put_run_first.ensures)
+    (subst (λ (run : List ℕ). PutsText ghosts c.args.out.now (replacement_in c.args.format run) c.put_run.result c.put_run.new.out) c.run_text.ensures (pieces_put ghosts c.args.format _ _ _ _ c.put_run.ensures))

@@ -1,36 +1,9 @@
-use Rattle.std.proofs.Common.{◌≡◌, sym, ap, subst, ◌∙◌}
+use Rattle.std.proofs.Common.{sym, ap, ◌∙◌}
 use Rattle.rustc_demangle.specs.Filtered.{replacement_in}
-use Rattle.rustc_demangle.proofs.MemoLemmas.{symbol_replaced, run_kept}
 use Rattle.rustc_demangle.proofs.stream.memo.print_new.Goals as goal
-
-pub returns-then-not-has_style-clause-no_symbol : goal.returns-then-not-has_style-clause-no_symbol
-returns-then-not-has_style-clause-no_symbol c = λ _.
-    run_kept c.args.run.now c.read_run_counted-symbol.result c.args.format c.read_run_counted-symbol.ensures.text (c.has_style.ensures.no c.if-not-has_style.true)
-
-pub returns-clause-symbol : goal.returns-clause-symbol
-returns-clause-symbol c = λ _.
-    c.print_to_buffer.ensures c.if-not-print_to_buffer.false
-    ∙ symbol_replaced c.args.run.now c.read_run_counted-symbol.result c.args.format c.read_run_counted-symbol.ensures.text (c.has_style.ensures.yes c.if-not-has_style.false)
 
 pub returns-clause-remembers : goal.returns-clause-remembers
 returns-clause-remembers c =
-    c.insert-2.ensures.remembers (replacement_in c.args.format) c.requires.remembers
-    (c.as_slice-2.ensures ∙ c.print_to_buffer.ensures c.if-not-print_to_buffer.false
-    ∙ symbol_replaced c.args.run.now c.read_run_counted-symbol.result c.args.format c.read_run_counted-symbol.ensures.text (c.has_style.ensures.yes c.if-not-has_style.false)
-    ∙ ap (replacement_in c.args.format) (sym c.as_bytes-2.ensures.value))
-
-pub returns-then-not-print_to_buffer-clause-remembers : goal.returns-then-not-print_to_buffer-clause-remembers
-returns-then-not-print_to_buffer-clause-remembers c = c.note_too_long.ensures.remembers (replacement_in c.args.format) c.requires.remembers
-
-pub returns-then-not-has_style-clause-remembers : goal.returns-then-not-has_style-clause-remembers
-returns-then-not-has_style-clause-remembers c =
-    let format = c.args.format in
-    let same : c.args.run.now ≡ replacement_in format c.args.run.now =
-    run_kept c.args.run.now c.read_run_counted-symbol.result format c.read_run_counted-symbol.ensures.text (c.has_style.ensures.no c.if-not-has_style.true) in
-    c.insert-then-not-has_style.ensures.remembers (replacement_in format) c.requires.remembers
-    (subst (λ t. t ≡ replacement_in format t) (sym c.as_bytes-kept.ensures.value) same)
-
-pub returns-then-print_first-clause-remembers : goal.returns-then-print_first-clause-remembers
-returns-then-print_first-clause-remembers c =
     let stands = replacement_in c.args.format in
-    c.insert.ensures.remembers stands c.requires.remembers (c.as_slice.ensures ∙ c.print_first.ensures.printed c.if-print_first.true ∙ ap stands (sym c.as_bytes.ensures.value))
+    c.insert.ensures.remembers stands (rw c.print_or_read.ensures.texts c.requires.remembers)
+    (c.as_slice.ensures ∙ c.in_default.ensures.printed ∙ ap stands (sym c.as_bytes.ensures.value))

@@ -2,6 +2,7 @@ use Rattle.std.specs.Prelude.{IsAscii}
 use Rattle.std.specs.List.{concat}
 use Rattle.std.proofs.Common.{◌≡◌, ◌≤◌, ℕ, true, List, [], ◌∷◌, ◌++◌, Result, Ok, Err, is_ok, OnOk, Some, length, arith, refl, sym, subst, ap, ◌∙◌, inr, rules}
 use Rattle.std.proofs.lemmas.Bool.{false≢true}
+use Rattle.demangle_legacy.specs.Legacy.{elements_of}
 use Rattle.demangle_v0_grammar.specs.Reading.{path_texts}
 use Rattle.demangle_v0_grammar.specs.V0.{v0_of}
 use Rattle.demangle_v0_grammar.proofs.V0Reading.{read_is_v0}
@@ -17,7 +18,7 @@ use Rattle.rustc_demangle.proofs.RunStarts.{all_ascii}
 use Rattle.rustc_demangle.proofs.MemoLemmas.{symbol_replaced}
 use Rattle.rustc_demangle.proofs.PrintingLaws.{handed-some_of}
 use Rattle.rustc_demangle.proofs.Stripping.{IsAscii-stripped, stripped-shorter}
-use Rattle.rustc_demangle.proofs.SymbolLemmas.{pieces-v0}
+use Rattle.rustc_demangle.proofs.SymbolLemmas.{pieces-v0, suffix-shorter}
 use Rattle.rustc_demangle.proofs.value.printing.print_v0_run.Goals as goal
 
 -- pieces within the lower limit are cut at neither
@@ -32,39 +33,62 @@ v0_replaced run text inner suffix format same read allowed =
     let is : IsSymbol text = inr (inner, suffix, read_is_v0 text inner suffix read, allowed) in
     sym (ap concat whole) ∙ symbol_replaced run text format same is
 
-pub demangle_printed-read-requires-clause-ascii : goal.demangle_printed-read-requires-clause-ascii
-demangle_printed-read-requires-clause-ascii g c = subst IsAscii (sym c.without_thin_lto-text.ensures) (IsAscii-stripped c.args.run.now (all_ascii c.args.run.now c.requires.run))
+pub demangle_printed-requires-clause-ascii : goal.demangle_printed-requires-clause-ascii
+demangle_printed-requires-clause-ascii g c = subst IsAscii (sym c.without_thin_lto-text.ensures) (IsAscii-stripped c.args.run.now (all_ascii c.args.run.now c.requires.run))
+
+pub demangle-requires : goal.demangle-requires
+demangle-requires g c = λ _. subst IsAscii (sym c.without_thin_lto-text.ensures) (IsAscii-stripped c.args.run.now (all_ascii c.args.run.now c.requires.run))
 
 when_ok : {P : Type 0} (r : Result (Unit {0}) SinkRefused) → is_ok r ≡ true → OnOk r P → P
 when_ok (Ok u) e p = p
 when_ok (Err f) e p = absurd (false≢true e)
 
-pub returns-then-is_allowed-clause-took : goal.returns-then-is_allowed-clause-took
-returns-then-is_allowed-clause-took g c = λ is.
+pub returns-then-is_ok-clause-took : goal.returns-then-is_ok-clause-took
+returns-then-is_ok-clause-took g c = λ _.
     let laws = g.met.S.TextSink in
-    let printed = c.demangle_printed-read.new.out in
-    let suffix = c.in-Some.suffix.now in
+    let printed = c.demangle_printed.new.out in
+    let inner = c.in-Symbol.symbol in
+    let suffix = c.in-Symbol.suffix.now in
     let put = c.put_piece.result in
-    let prints = rw c.form.ensures at c.in-Some.ensures.prints in
+    let prints = rw c.form.ensures at c.in-Symbol.ensures.known.1 in
     let both =
     puts_then g.S.TextSink c.args.out.now _ c.put_piece.new.out _ (suffix ∷ []) (Ok tt) put
     (prints_cut_all g.S.TextSink c.new-limited.result printed _ _ _ _ (Ok tt) c.new-limited.ensures.text c.new-limited.ensures.left prints (prints.open_ refl) (search rules))
     refl c.put_piece.ensures in
     let took = puts_text g.S.TextSink c.args.out.now c.put_piece.new.out _ put laws.took_nothing laws.took_joined both in
-    let within : size (path_texts c.in-Some.field-0-0 (form_of c.args.format)) ≤ c.text_limit-limit.result = omega (arith, prints.within refl, c.new-limited.ensures.left) in
-    let limited = same_cut (path_texts c.in-Some.field-0-0 (form_of c.args.format)) c.text_limit-limit.result c.args.format.limit within c.text_limit-limit.ensures in
-    let whole = v0_replaced c.args.run.now c.without_thin_lto-text.result.now c.in-Some.field-0-0 suffix c.args.format c.without_thin_lto-text.ensures c.in-Some.ensures.some (sym c.if-is_allowed.ensures.allowed) in
+    let within : size (path_texts inner (form_of c.args.format)) ≤ c.text_limit-limit.result = omega (arith, prints.within refl, c.new-limited.ensures.left) in
+    let limited = same_cut (path_texts inner (form_of c.args.format)) c.text_limit-limit.result c.args.format.limit within c.text_limit-limit.ensures in
+    let allowed = sym c.is_allowed-allowed.ensures.allowed ∙ c.if-allowed.true in
+    let whole = v0_replaced c.args.run.now c.without_thin_lto-text.result.now inner suffix c.args.format c.without_thin_lto-text.ensures c.in-Symbol.ensures.known.0 allowed in
     let text = ap (λ (pieces : List (List ℕ)). concat (pieces ++ suffix ∷ [])) limited ∙ whole in
-    subst (λ t. g.S.TextSink.took c.args.out.now t c.put_piece.new.out) text (when_ok put (sym c.is_ok.ensures.value ∙ is) took)
+    subst (λ t. g.S.TextSink.took c.args.out.now t c.put_piece.new.out) text (when_ok put (sym c.is_ok.ensures.value ∙ c.if-is_ok.true) took)
 
-pub returns-in_default-clause-most : goal.returns-in_default-clause-most
-returns-in_default-clause-most g c =
-    omega (arith, c.in_default.ensures.most, ap length c.without_thin_lto-text.ensures, stripped-shorter c.args.run.now)
+pub returns-then-is_ok-clause-most : goal.returns-then-is_ok-clause-most
+returns-then-is_ok-clause-most g c =
+    omega (arith, c.in-Symbol.ensures.most, c.in-Symbol.ensures.inner.1, c.is_allowed-allowed.ensures.most, ap length c.without_thin_lto-text.ensures, stripped-shorter c.args.run.now)
 
-pub returns-then-is_allowed-clause-most : goal.returns-then-is_allowed-clause-most
-returns-then-is_allowed-clause-most g c =
-    omega (arith, c.in-Some.ensures.most, c.in-Some.ensures.suffix, c.is_allowed.ensures.most, ap length c.without_thin_lto-text.ensures, stripped-shorter c.args.run.now)
+pub returns-else-allowed-clause-most : goal.returns-else-allowed-clause-most
+returns-else-allowed-clause-most g c =
+    omega (arith, c.in-Symbol.ensures.most, c.in-Symbol.ensures.inner.1, c.is_allowed-allowed.ensures.most, ap length c.without_thin_lto-text.ensures, stripped-shorter c.args.run.now)
 
-pub returns-else-is_allowed-clause-most : goal.returns-else-is_allowed-clause-most
-returns-else-is_allowed-clause-most g c =
-    omega (arith, c.in-Some.ensures.most, c.in-Some.ensures.suffix, c.is_allowed.ensures.most, ap length c.without_thin_lto-text.ensures, stripped-shorter c.args.run.now)
+pub returns-in-Part-clause-most : goal.returns-in-Part-clause-most
+returns-in-Part-clause-most g c =
+    omega (arith, c.in-Part.ensures.most, c.in-Part.ensures.inner.1, c.is_allowed-allowed-in-Part.ensures.most, ap length c.without_thin_lto-text.ensures, stripped-shorter c.args.run.now)
+
+pub returns-in-Ok-clause-most : goal.returns-in-Ok-clause-most
+returns-in-Ok-clause-most g c =
+    let text = c.without_thin_lto-text.result.now in
+    let below = suffix-shorter text (elements_of c.in-Ok.symbol) c.in-Ok.suffix.now c.in-Ok.ensures.ok in
+    omega (arith, c.in-NoSymbol.ensures.most, c.demangle.ensures.most, c.is_allowed-allowed-in-Ok.ensures.most, below, ap length c.without_thin_lto-text.ensures, stripped-shorter c.args.run.now)
+
+pub returns-in-Err-clause-most : goal.returns-in-Err-clause-most
+returns-in-Err-clause-most g c =
+    omega (arith, c.in-NoSymbol.ensures.most, c.demangle.ensures.most, ap length c.without_thin_lto-text.ensures, stripped-shorter c.args.run.now)
+
+pub returns-in-Unknown-clause-most : goal.returns-in-Unknown-clause-most
+returns-in-Unknown-clause-most g c =
+    omega (arith, c.in-Unknown.ensures.most, ap length c.without_thin_lto-text.ensures, stripped-shorter c.args.run.now)
+
+pub returns-in-Unknown-clause-early : goal.returns-in-Unknown-clause-early
+returns-in-Unknown-clause-early g c = λ _.
+    omega (arith, c.in-Unknown.ensures.early refl, ap length c.without_thin_lto-text.ensures, stripped-shorter c.args.run.now)

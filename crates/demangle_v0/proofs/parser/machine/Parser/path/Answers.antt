@@ -1,4 +1,4 @@
-use Rattle.std.proofs.Common.{◌≡◌, ◌+◌, ◌-◌, ◌<◌, Bool, true, not, ◌||◌, Some, None, Result, Ok, Err, IsOk, IsErr, false, length, arith, refl, sym, subst, ap, ◌∙◌, length-append}
+use Rattle.std.proofs.Common.{◌≡◌, ◌+◌, ◌<◌, Bool, true, not, ◌||◌, Some, None, Result, Ok, Err, IsOk, IsErr, false, length, arith, refl, sym, subst, ap, ◌∙◌, length-append}
 use Rattle.std.proofs.lemmas.Bool.{false≢true, leb-false}
 use Rattle.demangle_symbol.specs.Primitives.{byte_at, namespace_at, is_upper}
 use Rattle.demangle_v0_tokens.specs.declared.fixed_texts.FixedText.TheVariants as fixed

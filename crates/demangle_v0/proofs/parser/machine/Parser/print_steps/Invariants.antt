@@ -1,4 +1,4 @@
-use Rattle.std.proofs.Common.{◌≡◌, ◌+◌, ◌≤◌, true, false}
+use Rattle.std.proofs.Common.{◌≡◌, ◌+◌, ◌≤◌, true}
 use Rattle.demangle_sink.specs.Limit.{Ready}
 use Rattle.demangle_v0.specs.Parsers.{Paced, Same, machine_of, most_looks}
 use Rattle.demangle_v0.specs.Measure.{measure}

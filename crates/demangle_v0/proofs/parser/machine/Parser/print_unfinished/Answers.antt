@@ -1,5 +1,4 @@
 use Rattle.std.proofs.Common.{Ok, Some}
-use Rattle.std.proofs.lemmas.Bool.{false≢true}
 use Rattle.demangle_v0.proofs.Parsers.{left_as}
 use Rattle.demangle_v0.proofs.PrintLoop.{passed_ran, passed_valid, ran_joins, finished_ran, finished_valid}
 use Rattle.demangle_v0.proofs.parser.machine.Parser.print_unfinished.Goals as goal
@@ -24,4 +23,4 @@ print_steps-requires g c =
 pub returns-clause-ran : goal.returns-clause-ran
 returns-clause-ran g c =
     let d = c.in_default.ensures in
-    λ p began ran. ran_joins _ (passed_ran g.S.TextSink c.args.self.now.source.symbol.now c.args.self.now.source.form c.args.left ran d.finishes) (rw (d.same.0, d.same.1) at (c.print_steps.ensures.ran (λ z. absurd (false≢true z))))
+    λ p began ran. ran_joins _ (passed_ran g.S.TextSink c.args.self.now.source.symbol.now c.args.self.now.source.form c.args.left ran d.finishes) (rw (d.same.0, d.same.1) at c.print_steps.ensures.ran)

@@ -94,11 +94,11 @@ returns-in-Tuple-clause-performs g c = rw (c.with_braces-in-Tuple.ensures.contin
 })
 
 pub returns-in-Shared-clause-performs : goal.returns-in-Shared-clause-performs
-returns-in-Shared-clause-performs g c = record {
+returns-in-Shared-clause-performs g c = let d = advanced_rest g.V.Output c.args.output.now _ 6 6 9 c.shared_reference.ensures.performs in record {
   does = constant_as c.args.tag kind.Shared
       (rw (c.in_ok-kind.ensures.ok_part, c.in-Shared.is) at c.constant_kind.ensures) (omega arith)
-      (omega arith) (omega arith) c.shared_reference.ensures.performs.does;
-  same = c.shared_reference.ensures.performs.same;
+      (omega arith) (omega arith) d.does;
+  same = d.same;
 }
 
 pub returns-in-Variant-clause-performs : goal.returns-in-Variant-clause-performs
