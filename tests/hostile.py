@@ -1,7 +1,7 @@
 #!/usr/bin/env python3
 """Counts what texts that are made to be costly cost, call by call, and compares it with the published crate.
 
-usage: hostile.py [--rust FOLDER] [--programs NAMES] [--archive FILE] [STEP..]
+usage: hostile.py [--rust FOLDER] [--programs NAMES] [--archive FILE] [--seed N] [--minutes M] [STEP..]
 
 It counts instructions by valgrind, so a busy machine does not matter. The texts are those of tests/hostile_texts.py: families that grow
 with a number, symbols whose cost only a limit of work could bound, and symbols by the grammar. The calls are these:
@@ -11,6 +11,8 @@ with a number, symbols whose cost only a limit of work could bound, and symbols 
   program  kodliwe, plain and with --fold, over its standard input, as `make` builds it (proved) and as cargo does
   page     the module of the page, in node. There is no count of its instructions, so this is processor time, of a text and its double
   memory   VmHWM of each kodliwe over all of the texts: at most 8 MB, and twice the longest candidate of a symbol
+  printed in vain
+           BytesFilter over runs that it prints before it is known that these are no symbols, and calls that validate each run first
 
 A text fails for a call
 - if it takes over TIMES the instructions of the published crate, and over RATE for each byte of its input and output;
@@ -18,6 +20,15 @@ A text fails for a call
 The published crate has no streams in Debian's release. So its figure is try_demangle and `{}` for each candidate of the text.
 
 A text of UNBOUNDED has no such bounds. It may take a stated multiple of what the published crate takes for the same symbol.
+
+A run that is printed in vain fails if it takes over ALONE, BETWEEN or ALIKE times what validating it first takes. That is the cost of
+demangle_text, folded or not as the call, and for a filter or a C call also what this call takes beyond demangle_text for a text with runs
+of the same lengths that are no symbols by their fourth byte. BytesFilter remembers equal runs, so it also reads runs that end with
+different numbers. After a run in vain it prints the next one only if enough symbols came between, so it also reads texts with as many
+cheap symbols between.
+
+These runs are those of hostile_texts.VAIN, real symbols that are cut off, and what a search finds (tests/hostile_search.py). Its seed and
+the number of its generations are fixed, so it finds the same each time. --seed and --minutes make another one, of 5 minutes by default.
 
 --rust and --archive name others than those of this checkout. --programs, or PROGRAMS in the environment, names some builds of the
 program, or other files: --programs proved,cargo=PATH. `make` builds the proved program and the archive.
@@ -34,8 +45,10 @@ import subprocess
 import sys
 import tempfile
 import threading
+import time
 from concurrent import futures
 
+import hostile_search
 import hostile_texts
 import rust_common
 from common import ARCHIVE, INCLUDE, ROOT, RUST, Tally, built, instructions, run, tool
@@ -60,12 +73,34 @@ C_CALLS = [
     "kodliwe_demangle_text",
     "kodliwe_demangle_text_folded",
 ]
+# The calls that read runs which are no symbols. BytesFilter prints these first.
+VAIN_CALLS = ["demangle_slice", "BytesFilter", "BytesFilter folded", "kodliwe_demangle_text"]
 # The most that a byte of a text of four times the size costs the page, in processor time.
 PAGE_GROWTH = 2.5
 # The most memory of the program, in kilobytes, without a run, and the bytes of the longest run.
 MEMORY, LONGEST = 8192, 4_000_000
 # How many measurements run at once.
 AT_ONCE = 4
+# The most that a run which is printed in vain may cost, in what validating it first costs: alone, MANY times with a cheap run or as many
+# cheap symbols between each two, and MANY times without any.
+ALONE, BETWEEN, ALIKE = 3, 1.5, 1.3
+MANY = 500
+# The bytes of a cheap run for each byte of the run before it, and how many bytes of that run cost BytesFilter one symbol.
+CHEAP, BYTES_PER_SYMBOL = 8, 4
+# The searches: the most bytes of a run, the generations, and the calls that read the dearest runs too. BytesFilter prints no longer runs
+# first, or than 768 if it folds arguments. The other calls validate each run first, so that a search over them shows if one does not.
+SEARCHES = {
+    "demangle_slice": (384, 20, ["kodliwe_demangle_text"]),
+    "BytesFilter": (400, 60, ["BytesFilter folded"]),
+    "BytesFilter folded": (800, 30, []),
+}
+SEED = 1
+# A v0 run, and the number at the end of a run.
+RUN, NUMBER = re.compile(rb"_R[0-9A-Za-z_.$]*"), re.compile(rb"[0-9]{0,6}$")
+# How many climbs of a search have their dearest run measured MANY times.
+DEAREST = 5
+# Where callgrind writes: in memory, if there is such a folder.
+DUMPS = "/dev/shm" if os.path.isdir("/dev/shm") else None
 GIVEN = argparse.Namespace()
 
 
@@ -95,15 +130,16 @@ TEXTS = all_texts()
 NAMED = [text for text in TEXTS if not text.name.startswith("symbols from")]
 
 
-def measured(program, call):
-    """Returns for each text the instructions of `measured` in a driver, and the bytes of the output."""
-    records = b"".join(struct.pack("<I", len(text.bytes)) + text.bytes for text in TEXTS)
-    with tempfile.TemporaryDirectory() as folder:
-        words = [tool("valgrind", "valgrind"), "--tool=callgrind", "--toggle-collect=measured", "--dump-after=measured"]
+def measured(program, call, texts=None):
+    """Returns for each text, by default all of TEXTS, the instructions of `measured` in a driver, and the bytes of the output."""
+    texts = [text.bytes for text in TEXTS] if texts is None else texts
+    records = b"".join(struct.pack("<I", len(text)) + text for text in texts)
+    with tempfile.TemporaryDirectory(dir=DUMPS) as folder:
+        words = [tool("valgrind", "valgrind"), "--tool=callgrind", "--toggle-collect=measured", "--dump-after=measured", "--dump-line=no"]
         said = run([*words, "--callgrind-out-file=%s/out" % folder, program, call], input=records)
         sizes = [int(line) for line in said.split()]
-        counts = [total_of("%s/out.%d" % (folder, number)) for number in range(1, len(TEXTS) + 1)]
-    assert len(sizes) == len(TEXTS) and all(counts), "%s: %d of %d texts" % (call, len(sizes), len(TEXTS))
+        counts = [total_of("%s/out.%d" % (folder, number)) for number in range(1, len(texts) + 1)]
+    assert len(sizes) == len(texts) and all(counts), "%s: %d of %d texts" % (call, len(sizes), len(texts))
     return list(zip(counts, sizes))
 
 
@@ -164,12 +200,17 @@ def rust_call(call):
     return judged(call, measured(rust_driver(), call), theirs(call))
 
 
+@functools.lru_cache(maxsize=None)
+def c_driver():
+    """Builds the driver over the archive, and returns its path."""
+    program = os.path.join(rust_common.OUT, "hostile-c")
+    source = os.path.join(ROOT, "tests", "c_library", "hostile.c")
+    run([tool("cc", "gcc"), "-O2", "-Wall", "-I", INCLUDE, source, built(GIVEN.archive), "-o", program])
+    return program
+
+
 def c_call(call):
-    with tempfile.TemporaryDirectory() as folder:
-        program = os.path.join(folder, "hostile")
-        source = os.path.join(ROOT, "tests", "c_library", "hostile.c")
-        run([tool("cc", "gcc"), "-O2", "-Wall", "-I", INCLUDE, source, built(GIVEN.archive), "-o", program])
-        return judged(call, measured(program, call), theirs(call))
+    return judged(call, measured(c_driver(), call), theirs(call))
 
 
 def program_call(program, *words):
@@ -241,11 +282,136 @@ def memory(program):
     return "%d KB plain and %d KB folded, at most %d" % (*found, most)
 
 
+def cheap_run(symbol, _):
+    """Returns a cheap run that is no symbol."""
+    return ["_R" + "." * (CHEAP * len(symbol) - 3) + "q"]
+
+
+def cheap_symbols(symbol, at):
+    """Returns as many cheap symbols as BytesFilter has to read before it prints a run first again. No two are the same."""
+    count = len(symbol) // BYTES_PER_SYMBOL + 1
+    return ["_RC1a.%014d" % (at * 1000 + number) for number in range(count)]
+
+
+def repeated(runs, is_counted, between=lambda *_: []):
+    """Returns a text of MANY runs, each perhaps with a number at its end, and what is between them."""
+    lines = []
+    for at in range(MANY):
+        symbol = runs[at % len(runs)]
+        lines.append(symbol + hostile_texts.BAD % at * is_counted)
+        lines += between(symbol, at)
+    return "\n".join(lines) + "\n"
+
+
+def vain_texts(runs, call):
+    """Returns the texts with some runs by their names, and the most that each may cost."""
+    texts = {"alone": (ALONE, runs)}
+    for is_counted in (False, True)[: 1 + call.startswith("BytesFilter")]:
+        counted = "with numbers, " * is_counted
+        texts[counted + "cheap ones between"] = BETWEEN, [repeated(runs, is_counted, cheap_run)]
+        texts[counted + "many"] = ALIKE, [repeated(runs, is_counted)]
+    if call.startswith("BytesFilter"):
+        texts["with numbers, cheap symbols between"] = BETWEEN, [repeated(runs, True, cheap_symbols)]
+    return texts
+
+
+def blank_run(run):
+    """Returns a run of the same length, with the same number at its end, that is no symbol by its fourth byte."""
+    number = NUMBER.search(run, 4)
+    number = number[0] if number and number[0] else b"0"
+    return b"_ZNx".ljust(len(run), b"x")[: len(run) - len(number)] + number
+
+
+def blank(text):
+    """Returns the text with blank runs in place of its v0 runs. BytesFilter looks these up too."""
+    return RUN.sub(lambda run: blank_run(run[0]), text)
+
+
+class Vain:
+    """Measures a call in what validating first costs."""
+
+    def __init__(self, call):
+        self.call, self.beyond = call, {}
+        self.first = "demangle_text folded" if call.endswith("folded") else "demangle_text"
+        self.program = c_driver() if call in C_CALLS else rust_driver()
+
+    def more(self, texts):
+        """Returns what the call takes for these texts beyond demangle_text, which is measured once for each blank text."""
+        if self.call == "demangle_slice":
+            return [0] * len(texts)
+        blanks = [blank(text) for text in texts]
+        new = list(dict.fromkeys(text for text in blanks if text not in self.beyond))
+        if new:
+            ours, first = (measured(*call, new) for call in ((self.program, self.call), (rust_driver(), self.first)))
+            self.beyond.update((text, count - valid) for text, (count, _), (valid, _) in zip(new, ours, first))
+        return [self.beyond[text] for text in blanks]
+
+    def ratios(self, texts):
+        """Returns what each text costs."""
+        if not texts:
+            return []
+        texts = [text.encode("ascii") for text in texts]
+        first = measured(rust_driver(), self.first, texts)
+        ours = measured(self.program, self.call, texts)
+        return [count / (valid + more) for (count, _), (valid, _), more in zip(ours, first, self.more(texts))]
+
+    def costs(self, families):
+        """Returns for each text of each family of runs its name, what it costs, and what it may cost."""
+        rows = [(name, kind, most, texts) for name, runs in families.items() for kind, (most, texts) in vain_texts(runs, self.call).items()]
+        ratios, costs = iter(self.ratios([text for row in rows for text in row[3]])), []
+        for name, kind, most, texts in rows:
+            cost, text = max((next(ratios), text) for text in texts)
+            costs.append((name + ", %s" % text * (len(texts) > 1), kind, cost, most))
+        return costs
+
+
+def too_dear(costs):
+    """Returns a line for each family with a text that costs too much, or nothing."""
+    wrong = {}
+    for name, kind, cost, most in costs:
+        if cost > most:
+            wrong.setdefault(name, []).append("%s %.2f, may be %.2f" % (kind, cost, most))
+    return "".join("\n  %s: %s" % (name, "; ".join(texts)) for name, texts in wrong.items())
+
+
+def vain_families(call):
+    costs, most_of = Vain(call).costs(hostile_texts.vain_families()), {}
+    for _, kind, cost, _ in costs:
+        most_of[kind] = max(cost, most_of.get(kind, 0))
+    told = "at most " + ", ".join("%s %.2f" % row for row in most_of.items())
+    assert not too_dear(costs), told + too_dear(costs)
+    return told
+
+
+def vain_search(call, most, generations, others):
+    """Searches for runs that cost much alone. Fails if the dearest ones of some climbs cost too much, or do so by other calls."""
+    known = [symbol for symbols in hostile_texts.vain_families().values() for symbol in symbols[:3]]
+    search = hostile_search.Search(SEED if GIVEN.seed is None else GIVEN.seed, most, Vain(call).ratios, known)
+    if GIVEN.seed is None and GIVEN.minutes is None:
+        for _ in range(generations):
+            search.generation()
+    else:
+        end = time.monotonic() + 60 * (5 if GIVEN.minutes is None else GIVEN.minutes)
+        while time.monotonic() < end:
+            search.generation()
+    found = search.dearest()[:DEAREST]
+    told, wrong = "%d runs in %d climbs, the dearest is %s" % (len(search.tried), search.climbs, found[0]), False
+    for measured_call in (call, *others):
+        costs = Vain(measured_call).costs({symbol: [symbol] for symbol in found})
+        numbers = ", ".join("%s %.2f" % (kind, cost) for symbol, kind, cost, _ in costs if symbol == found[0])
+        told += "\n %s: %s%s" % (measured_call, numbers, too_dear(costs))
+        wrong = wrong or bool(too_dear(costs))
+    assert not wrong, told
+    return told
+
+
 def main():
     words = argparse.ArgumentParser(description=__doc__, formatter_class=argparse.RawDescriptionHelpFormatter)
     words.add_argument("--rust", metavar="FOLDER", default=RUST, help="the workspace of the Rust crate")
     rust_common.add_programs(words)
     words.add_argument("--archive", metavar="FILE", default=ARCHIVE, help="the static library for C")
+    words.add_argument("--seed", metavar="N", type=int, help="the seed of another search for runs that are printed in vain")
+    words.add_argument("--minutes", metavar="M", type=float, help="how long it searches for each call")
     words.add_argument("only", nargs="*", metavar="STEP", help="run these alone")
     words.parse_args(namespace=GIVEN)
     for name in ("rust", "archive"):
@@ -260,6 +426,10 @@ def main():
         tally.step("program %s" % name, program_call, program)
         tally.step("program %s, folded" % name, program_call, program, "--fold")
         tally.step("memory %s" % name, memory, program)
+    for call in VAIN_CALLS:
+        tally.step("printed in vain, %s" % call, vain_families, call)
+    for call, setting in SEARCHES.items():
+        tally.step("printed in vain, search for %s" % call, vain_search, call, *setting)
     tally.step("page", page)
     return tally.end()
 

@@ -2,8 +2,10 @@
 
 Only families have names, so that a bound can be stated for each. All are ASCII, and the same each time.
 """
+import os
 import random
 
+from common import CORPUS, ROOT
 from texts import DIGITS
 
 
@@ -73,6 +75,7 @@ FAMILIES = {
     "symbols that come once": lambda n: lines("_RNvNtC8aaaaaaaa8bbbbbbbb9ccc%06d1d", n // 38),
     "symbols that repeat": lambda n: lines("_RNvC8aaaaaaaa8bbbbbbbb9ccc%06d", 50) * (n // 1700),
     "long texts that repeat": lambda n: ("_RMC0T" + "RNvNtC8aaaaaaaa8bbbbbbbb9ccccccccc" * 80 + "E\n") * (n // 2744),
+    "long texts of short symbols that repeat": lambda n: ("_RMC0T" + "Rm" * 600 + "E\n") * (n // 1208),
     "numbers with zeros": lambda n: "_RNvC0s" + "0" * n + "_1a",
     "constants with zeros": lambda n: "_RIC0Kj" + "0" * n + "1_E",
     "strings": lambda n: "_RIC0KRe" + "c3a9" * (n // 4) + "_E",
@@ -121,6 +124,72 @@ UNBOUNDED = {
     "overlapping references": (3, lambda: overlapping(6, 300, "")),
     "a binder": (2, lambda: "_RMC0FG" + base62(50_000) + "Eu"),
 }
+
+
+def referred(part, many, before="IC0"):
+    """Returns a run that has a part, references to it, and then an error."""
+    return "_R" + before + part + back(len(before)) * many + "0"
+
+
+# Two crates with long names, which cost little for each byte.
+CHEAP = "IC150" + "a" * 150 + "C100" + "b" * 100
+# Runs that are no symbols. What is printed of each before that is known, is printed in vain.
+VAIN = {
+    "a name that is read as a reference": "_RYC5INvC5B2_001aCu9t0a0a0a0a" + "Be_" * 103 + "EE",
+    "a string that is read so": "_RYC5INvC5B2_001aKRe6161616161_" + "KBf_" * 77 + "EE",
+    "Punycode in Punycode": "_RNvICu9t0a0a0a6aCu9t0a0a0a2aB_EbEEEBO_EE8EEgEpEEE2EEEEEEEBCEEEE",
+    "a tuple in itself": "_RYTCu9aaaaaaaaaB0_0" + "E" * 13,
+    "references one after the other": "_RYTCu9aaaaaaaaaB1_Bd_Bg_Bj_Bm_Bp_Bs_0E",
+    "a path after a path": "_RYTpppEINvC1a1bNvC1a1bB5_BR_CFUKCuEuOY9aaaaaaaaaYBR_",
+    "names in Punycode": "_RYT" + "Cu9aaaaaaaaa" * 5 + "0E",
+    "references": "_RINvC3foo3barB_" + "R" * 40 + "_E",
+    "a string": "_RIC0KRe" + "61" * 60 + "_0E",
+    "a binder of many lifetimes": "_RYFGZZ_uEu0E" + "E" * 25,
+    "a long name in Punycode": "_RNvC3foou60" + "a" * 60 + "0E",
+    "cheap names and a type": referred("u", 25, CHEAP),
+    "cheap names and a tuple": referred("TuuuuuuuuE", 20, CHEAP),
+    "a disambiguator with zeros": referred("NvCs" + "0" * 120 + "_1a1b", 40),
+    "a disambiguator with zeros, alone": referred("Cs" + "0" * 120 + "_1a", 40),
+    "nested tuples": referred("T" * 20 + "u" + "E" * 20, 30),
+    "references before a type": referred("R" * 60 + "u", 30),
+    "a binder": referred("FG_RL0_uEu", 60),
+    "a binder of two lifetimes": referred("FG0_RL0_RL1_uEu", 60),
+    "binders in binders": referred("FG_" * 20 + "u" + "Eu" * 20, 30),
+    "binders one after the other": "_RIC0" + "FG_EL0_" * 40 + "0",
+    "lifetimes": "_RIC0FGZ_" + "RL0_u" * 50 + "0",
+    "a binder of a trait object": referred("DG_C1aEL0_", 60),
+    "a trait object with bindings": referred("DC1ap1buEL_", 60),
+    "open trait arguments": referred("DINtC1a1bhEp1cuEL_", 60),
+    "a string and references to it": "_RIC0KRe" + "61" * 20 + "_" + "KB3_" * 60 + "0",
+    "an error at the start": "_R" + "0" * 62,
+    # The search found these.
+    "cheap names and shims": "_R" + CHEAP + "TNSC0s9_1a" + back(len(CHEAP) + 1) * 4 + "E" + back(len(CHEAP)) * 3 + "0",
+    "cheap names and ABIs": "_R" + CHEAP + "TFK3a_bEu" + back(len(CHEAP) + 1) * 4 + "E" + back(len(CHEAP)) * 3 + "0",
+    "constants and a reference to all": "_RIC0" + "Knb_" * 40 + "B_",
+    "ABIs and a reference to all": "_RIC0" + "FK3a_bEu" * 40 + "B_",
+    "a binder of many lifetimes in a long run": "_RYFGZZ_uEu0E" + "E" * 371,
+    "lifetimes and references to them": "_RIC0FGZ_" + "RL0_u" * 18 + "B0_" * 95,
+    "arguments that are read from within a name": "_RYC5INvC5B2_001aCu9t0a0a0a0a" + "Be_" * 245,
+}
+
+
+def real_symbols():
+    """Returns the v0 symbols of real programs that the corpus and the measurements have."""
+    with open(os.path.join(ROOT, "bench", "symbols.txt"), encoding="ascii") as file:
+        symbols = file.read().replace("?", "7").split()
+    with open(CORPUS, "rb") as file:
+        lines = file.read().split(b"\n")[800:1700]
+    symbols += [line.split(b"\t")[0].decode("ascii") for line in lines]
+    return list(dict.fromkeys(symbol for symbol in symbols if symbol.startswith("_R") and symbol.isascii()))
+
+
+def vain_families():
+    """Returns lists of runs that are no symbols, by their names. A list of several runs has real symbols that are cut off."""
+    symbols = real_symbols()
+    families = {name: [run] for name, run in VAIN.items()}
+    for size in (64, 128, 256):
+        families["real symbols cut off after %d bytes" % size] = [symbol[:size] for symbol in symbols if len(symbol) > size]
+    return families
 
 
 class Grammar:

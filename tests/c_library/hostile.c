@@ -10,7 +10,7 @@
 
 #define LIMIT 1000000
 
-static char text[8 << 20], out[64 << 20];
+static char text[16 << 20], out[64 << 20];
 
 static size_t is_symbol(const char *run, size_t len) { return kodliwe_is_symbol(run, len); }
 

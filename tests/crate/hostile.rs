@@ -9,7 +9,7 @@ use std::fmt::Write as _;
 use std::io::Read;
 
 /// The room for an output.
-const SIZE: usize = 8 << 20;
+const SIZE: usize = 16 << 20;
 
 /// The output of a call, in memory that is never moved.
 struct Room {
@@ -75,13 +75,18 @@ fn filter(text: &str, room: &mut Room, fold_arguments: bool) -> usize {
 
 type Call = fn(&str, &mut Room) -> usize;
 
-const CALLS: [(&str, Call); 8] = [
+const CALLS: [(&str, Call); 9] = [
     ("crate", print_by!(theirs)),
     ("crate try", try_by!(theirs)),
     ("try_demangle", try_by!(kodliwe)),
     ("Display", print_by!(kodliwe)),
     ("demangle_text", |text, room| {
         kodliwe::demangle_text(text, room, true).expect("a string takes all");
+        room.text.len()
+    }),
+    ("demangle_text folded", |text, room| {
+        let format = Format::new().with_hash(true).with_folded_arguments(true);
+        kodliwe::demangle_text_formatted(text, room, format).expect("a string takes all");
         room.text.len()
     }),
     ("demangle_slice", |text, room| {
