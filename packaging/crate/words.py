@@ -51,7 +51,8 @@ def without_ghosts(text, members):
     for word in GHOST_TYPES.values():
         one = word.removesuffix("s")
         text = re.sub(rf", (?:and (?:it )?counts|with) (?:its|the|each|one) {one}s?\b(?: counted and without)?", "", text)
-        text = without_sentences(text, rf"`{word}`|\b(?:the|of) {word}\b|\bmakes (?:no|a|one|at most one) {one}\b")
+        few = rf"\b(?:makes|counts) (?:no|a|one|at most one) {one}s?\b"
+        text = without_sentences(text, rf"`{word}`|\b(?:[Tt]he|of) {word}\b|{few}|\b[Ee]ach {one}\b")
     named = [name for name in members if f"`{name}`" in text]
     if named:
         text = without_sentences(text, r"\b(?:%s)\b" % "|".join(named))

@@ -137,7 +137,8 @@ impl BytesFilter {
 
     /// Reads some of the available bytes, and writes those whose result is known.
     ///
-    /// Returns `false` at the end of the input, after it wrote its pending bytes.
+    /// Returns `false` at the end of the input, after it wrote its pending bytes. Then the filter may
+    /// read another input, whose first byte follows nothing.
     ///
     /// # Errors
     ///

@@ -1,6 +1,5 @@
-//! Counts the writes of a `BytesFilter`. They show what it remembers: a symbol that it remembers is
-//! one write, and so is one that it can print before it knows that it is one. A symbol whose path has
-//! an error can't be printed so, and each of its pieces is a write until it is remembered.
+//! Counts the writes of a `BytesFilter`, and shows what it remembers. A text that it remembers is
+//! written from the heap, and any other from the stack, where the filter is here.
 #![cfg(feature = "stream")]
 use kodliwe::{BytesFilter, Format, StreamFault};
 use std::io::{self, ErrorKind, Write};
@@ -8,15 +7,20 @@ use std::io::{self, ErrorKind, Write};
 const LEGACY: &str = "_ZN4core3fmt9Formatter3pad17h05af221e174051e9E";
 const LEGACY_PATH: &str = "core::fmt::Formatter::pad";
 
-/// A symbol whose path has an error, and its path.
-const BROKEN: &str = "_RNvIC5crateL0_E8function";
-const BROKEN_PATH: &str = "crate::<'{invalid syntax}>::?";
+/// A symbol whose path is long for it, and its path.
+const MANY: &str = "_RINvC5crate8functionFGN_EuE";
+const MANY_PATH: &str = "crate::function::<for<'a, 'b, 'c, 'd, 'e, 'f, 'g, 'h, 'i, 'j, 'k, 'l, 'm, 'n, \
+    'o, 'p, 'q, 'r, 's, 't, 'u, 'v, 'w, 'x, 'y, 'z, '_26, '_27, '_28, '_29, '_30, '_31, '_32, '_33, \
+    '_34, '_35, '_36, '_37, '_38, '_39, '_40, '_41, '_42, '_43, '_44, '_45, '_46, '_47, '_48, '_49, \
+    '_50> fn()>";
 
 /// A writer that keeps what it takes, counts the writes, and fails at one of them.
 #[derive(Default)]
 struct Counted {
     bytes: Vec<u8>,
     writes: usize,
+    /// The address of the bytes of the first write.
+    first: usize,
     fails_at: Option<usize>,
 }
 
@@ -24,6 +28,9 @@ impl Write for Counted {
     fn write(&mut self, bytes: &[u8]) -> io::Result<usize> {
         if self.fails_at == Some(self.writes) {
             return Err(ErrorKind::StorageFull.into());
+        }
+        if self.writes == 0 {
+            self.first = bytes.as_ptr() as usize;
         }
         self.writes += 1;
         self.bytes.extend_from_slice(bytes);
@@ -35,31 +42,53 @@ impl Write for Counted {
     }
 }
 
-/// Filters a symbol and the line feed after it. Returns the number of writes for the symbol.
-fn writes_of(filter: &mut BytesFilter, symbol: &str, path: &str) -> usize {
+/// How a symbol was written.
+#[derive(Debug, PartialEq)]
+struct Written {
+    writes: usize,
+    is_remembered: bool,
+}
+
+const PRINTED: Written = Written {
+    writes: 1,
+    is_remembered: false,
+};
+
+const REMEMBERED: Written = Written {
+    writes: 1,
+    is_remembered: true,
+};
+
+/// Filters a symbol and the line feed after it. Returns how the symbol was written.
+fn written(filter: &mut BytesFilter, symbol: &str, path: &str) -> Written {
     let text = format!("{symbol}\n");
     let (mut input, mut output) = (text.as_bytes(), Counted::default());
     while !input.is_empty() {
         assert!(filter.step(&mut input, &mut output).unwrap());
     }
     assert_eq!(output.bytes, format!("{path}\n").into_bytes(), "{symbol}");
-    // One more is for the line feed.
-    output.writes - 1
+    let here = &raw const text as usize;
+    Written {
+        // One more is for the line feed.
+        writes: output.writes - 1,
+        is_remembered: output.first.abs_diff(here) > 1 << 16,
+    }
 }
 
 /// Filters legacy symbols that come once.
 fn filter_new(filter: &mut BytesFilter, numbers: std::ops::Range<u64>) {
     for number in numbers {
-        writes_of(filter, &format!("_ZN4once17h{number:016x}E"), "once");
+        written(filter, &format!("_ZN4once17h{number:016x}E"), "once");
     }
 }
 
 #[test]
 fn a_repeated_symbol_is_one_write() {
     let mut filter = BytesFilter::new(false);
-    assert!(writes_of(&mut filter, BROKEN, BROKEN_PATH) > 3);
-    for _ in 0..3 {
-        assert_eq!(writes_of(&mut filter, BROKEN, BROKEN_PATH), 1);
+    for (symbol, path) in [(MANY, MANY_PATH), (LEGACY, LEGACY_PATH)] {
+        for wanted in [PRINTED, PRINTED, REMEMBERED, REMEMBERED] {
+            assert_eq!(written(&mut filter, symbol, path), wanted);
+        }
     }
 }
 
@@ -67,13 +96,11 @@ fn a_repeated_symbol_is_one_write() {
 fn a_legacy_symbol_with_a_hash_is_one_write() {
     let mut filter = BytesFilter::new(false);
     for _ in 0..3 {
-        assert_eq!(writes_of(&mut filter, LEGACY, LEGACY_PATH), 1);
+        assert_eq!(written(&mut filter, LEGACY, LEGACY_PATH).writes, 1);
     }
     for _ in 0..3 {
-        assert_eq!(
-            writes_of(&mut filter, "_ZN9functions4nameE", "functions::name"),
-            3
-        );
+        let name = written(&mut filter, "_ZN9functions4nameE", "functions::name");
+        assert_eq!(name.writes, 3);
     }
 }
 
@@ -105,21 +132,57 @@ fn a_v0_symbol_is_one_write() {
             "crate::generic::<_>",
         ),
         (&long, "a::b", "a::b"),
+        (MANY, MANY_PATH, "crate::function::<_>"),
     ];
     for (symbol, path, folded) in rows {
         for (fold_arguments, path) in [(false, path), (true, folded)] {
             let format = Format::new().with_folded_arguments(fold_arguments);
             let mut filter = BytesFilter::with_format(format);
             for _ in 0..3 {
-                assert_eq!(writes_of(&mut filter, symbol, path), 1, "{symbol}");
+                assert_eq!(written(&mut filter, symbol, path).writes, 1, "{symbol}");
             }
         }
     }
     // Each piece of a longer symbol is a write.
     let mut filter = BytesFilter::new(false);
     for _ in 0..3 {
-        assert_eq!(writes_of(&mut filter, &longer, "a::b"), 3);
+        assert_eq!(written(&mut filter, &longer, "a::b").writes, 3);
     }
+}
+
+#[test]
+fn a_text_of_up_to_2048_bytes_is_one_write() {
+    for (len, wanted) in [(1_019, 1..2), (1_020, 1..2), (1_021, 2..8)] {
+        let name = "x".repeat(len);
+        let path = format!("ab::<{name}, {name}>");
+        assert_eq!(path.len(), 2 * len + 8);
+        let mut filter = BytesFilter::new(false);
+        for _ in 0..4 {
+            let found = written(&mut filter, &format!("_RIC2abC{len}{name}B4_E"), &path);
+            assert!(wanted.contains(&found.writes), "{len}: {found:?}");
+        }
+    }
+}
+
+#[test]
+fn a_symbol_after_a_run_that_is_none_is_one_write() {
+    let mut filter = BytesFilter::new(false);
+    let damaged = "_RINvC5crate8functionmmmmmmmmmmmmmmmmmmm";
+    written(&mut filter, damaged, damaged);
+    let path = "crate::functions";
+    assert_eq!(written(&mut filter, "_RNvC5crate9functions", path), PRINTED);
+}
+
+#[test]
+fn a_filter_reads_another_input_after_its_end() {
+    let mut filter = BytesFilter::new(false);
+    let mut output = Vec::new();
+    // A symbol directly after a letter would stay.
+    for text in ["x", "_RC1a", "_", " _RC1b\n"] {
+        let mut input = text.as_bytes();
+        while filter.step(&mut input, &mut output).unwrap() {}
+    }
+    assert_eq!(output, b"xa_ b\n");
 }
 
 #[test]
@@ -127,36 +190,37 @@ fn a_filter_remembers_nothing_for_a_while_if_symbols_come_once() {
     let mut filter = BytesFilter::new(false);
     filter_new(&mut filter, 0..4_096);
     for _ in 0..3 {
-        assert!(writes_of(&mut filter, BROKEN, BROKEN_PATH) > 3);
+        assert_eq!(written(&mut filter, MANY, MANY_PATH), PRINTED);
     }
     // It starts again after 32,768 runs.
     filter_new(&mut filter, 4_096..4_096 + 32_765);
-    assert!(writes_of(&mut filter, BROKEN, BROKEN_PATH) > 3);
-    assert_eq!(writes_of(&mut filter, BROKEN, BROKEN_PATH), 1);
+    for wanted in [PRINTED, PRINTED, REMEMBERED] {
+        assert_eq!(written(&mut filter, MANY, MANY_PATH), wanted);
+    }
 }
 
-/// Filters one repeated symbol among others that come once. Returns how often it was one write.
+/// Filters one repeated symbol among others that come once. Returns how often it was remembered.
 fn remembered_of(turns: u64, others: u64) -> u64 {
     let mut filter = BytesFilter::new(false);
     let mut remembered = 0;
     for turn in 0..turns {
         filter_new(&mut filter, turn * others..(turn + 1) * others);
-        remembered += u64::from(writes_of(&mut filter, BROKEN, BROKEN_PATH) == 1);
+        remembered += u64::from(written(&mut filter, MANY, MANY_PATH).is_remembered);
     }
     remembered
 }
 
 #[test]
 fn one_repeated_symbol_of_twenty_keeps_the_memory_on() {
-    assert_eq!(remembered_of(2_000, 10), 1_999);
-    assert_eq!(remembered_of(2_000, 19), 1_999);
+    assert_eq!(remembered_of(2_000, 10), 1_998);
+    assert_eq!(remembered_of(2_000, 19), 1_998);
     // Of 41 lookups, 40 add one to the count and one subtracts 19. At 4,096 nothing is remembered.
     assert!((190..200).contains(&remembered_of(800, 40)));
 }
 
 #[test]
 fn an_error_of_the_writer_is_returned_as_it_is() {
-    let text = format!("{LEGACY}\n{BROKEN}\n").repeat(5);
+    let text = format!("{LEGACY}\n{MANY}\n").repeat(5);
     let mut whole = Counted::default();
     kodliwe::demangle_bytes(&mut text.as_bytes(), &mut whole, false).unwrap();
     for fails_at in 0..whole.writes {

@@ -3,26 +3,30 @@
 //!
 //! A back reference may lead to bytes that were read before, and these to others. So the work of
 //! printing is not bounded by the length of the run, and a run that is no symbol must not be
-//! printed to its end. The fuel pays for each step, and for the bytes that are read again. A parse
-//! with a budget ends when its fuel is used up.
+//! printed to its end. The fuel pays for each step, and for the bytes that are read again. If it is
+//! used up, a parse with a budget stops, and its caller validates the symbol. Only a valid one is
+//! printed on.
 //!
 //! Outside of references a parse reads each byte once, as validation does. Within them it has only
-//! a little fuel: some from its start, and some for each byte that it read outside. So what is
-//! printed in vain costs at most a few times what validation up to the same place does.
+//! a little fuel: some from its start, and some for each byte that it read outside.
 
-use crate::demangle_sink::SinkRefused;
 use crate::demangle_v0::parser::machine::Parser;
 use crate::demangle_v0::printer::Unfinished;
 use core::mem;
 
 /// The fuel for each byte of a run and for its end.
+#[cfg(feature = "stream")]
 const FUEL_PER_BYTE: usize = 24;
 
 /// The part of it that a parse has at its start for the steps within references.
+#[cfg(feature = "stream")]
 const FIRST_FUEL: usize = 64;
 
-/// What a byte that is read outside of references adds to that.
+/// The fuel for those steps that a byte adds which is read outside of references.
 const EARNED_FUEL: usize = 4;
+
+/// What a constant or a function type uses up of that part.
+const SLOW_FUEL: usize = 64;
 
 /// The fuel that a step uses up.
 const STEP_FUEL: usize = 5;
@@ -64,9 +68,10 @@ impl Fuel {
         }
     }
 
-    /// Returns the budget for a run of so many bytes.
+    /// Returns the fuel for a run of so many bytes.
+    #[cfg(feature = "stream")]
     #[cfg_attr(not(debug_assertions), inline(always))]
-    pub(crate) fn of(bytes: usize) -> Self {
+    pub(crate) fn for_run(bytes: usize) -> Self {
         let all = bytes.saturating_add(1).saturating_mul(FUEL_PER_BYTE);
         let reserve = FIRST_FUEL.min(all);
         Fuel {
@@ -102,6 +107,28 @@ impl Fuel {
     pub(crate) fn use_up_if(&mut self, is_slow: bool) {
         if is_slow {
             self.left = 0;
+        }
+    }
+
+    /// Uses up fuel for a constant or a function type, which are slow to print.
+    #[cfg_attr(not(debug_assertions), inline(always))]
+    pub(crate) fn spend(&mut self) {
+        // A parse without a budget has no fuel, and calls nothing.
+        if self.left > 0 {
+            self.spend_slow_fuel();
+        }
+    }
+
+    /// Does the same as `spend`.
+    #[inline(never)]
+    fn spend_slow_fuel(&mut self) {
+        if self.is_inside {
+            self.left = self.left.saturating_sub(SLOW_FUEL);
+            return;
+        }
+        match self.reserve.checked_sub(SLOW_FUEL) {
+            Some(reserve) => self.reserve = reserve,
+            None => self.left = 0,
         }
     }
 
@@ -209,7 +236,7 @@ fn fuel_after(fuel: usize, from: Option<usize>, to: Option<usize>) -> usize {
 impl Parser<'_, '_> {
     /// Returns whether a parse may read a part without output.
     #[cfg_attr(not(debug_assertions), inline(always))]
-    fn may_skip(&self, has_budget: bool) -> bool {
+    pub(crate) fn may_skip(&self, has_budget: bool) -> bool {
         if !has_budget {
             return true;
         }
@@ -222,24 +249,16 @@ impl Parser<'_, '_> {
     /// Reads the impl path or the folded arguments at which the parser is, continues after them,
     /// and uses up fuel for their bytes. Returns what is left to print if the stack is full before
     /// they end. Then no fuel is left, and neither is after an error.
-    ///
-    /// A parse with a budget fails if it may not skip them.
     #[inline(never)]
-    pub(crate) fn skip_for_fuel(
-        &mut self,
-        has_budget: bool,
-    ) -> Result<Option<Unfinished>, SinkRefused> {
-        if !self.may_skip(has_budget) {
-            return Err(SinkRefused);
-        }
+    pub(crate) fn skip_for_fuel(&mut self) -> Option<Unfinished> {
         let fuel = self.fuel;
         let start = self.place();
         if let Some(left) = self.skip_impl_path() {
             self.fuel.use_up();
-            return Ok(Some(left));
+            return Some(left);
         }
         let left = fuel_after(fuel.left, start, self.place());
         self.fuel = Fuel { left, ..fuel };
-        Ok(None)
+        None
     }
 }

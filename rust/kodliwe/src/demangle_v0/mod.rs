@@ -1,10 +1,15 @@
 // Made from crates/demangle_v0/src/lib.rt by packaging/crate/erase.py: edit that file instead.
 //! v0 symbols (RFC 2603): a prefix, one path or two, then a suffix.
 
+#[cfg(feature = "stream")]
 use crate::demangle_sink::{SizeLimitedFmtAdapter, TextSink};
 use crate::demangle_symbol::cursor::{ParseError, Symbol};
+#[cfg(feature = "stream")]
 use crate::demangle_symbol::form::Form;
-use crate::demangle_v0::validation::{begins_path, print_to_suffix, suffix_at};
+#[cfg(feature = "stream")]
+use crate::demangle_v0::validation::{Attempt, print_to_suffix};
+use crate::demangle_v0::validation::{begins_path, suffix_at};
+#[cfg(feature = "stream")]
 use crate::demangle_v0_tokens::source::Source;
 
 mod fuel;
@@ -69,28 +74,47 @@ pub fn demangle(s: &str, is_ascii: bool) -> Result<(Demangle<'_>, &str), ParseEr
     Ok((Demangle::new(symbol), &inner[end..]))
 }
 
-/// Reads a v0 symbol and prints its first path, in one pass over the path: with hashes or without
-/// them, and with its generic arguments or with `_` for them. Returns the symbol and the suffix
-/// after its paths. The text must be ASCII.
+/// What is known of a text whose first path was printed before it was known to be a symbol.
+#[cfg(feature = "stream")]
+#[derive(Clone, Copy)]
+pub enum Printed<'s> {
+    /// The text is this symbol with this suffix, and its first path was printed.
+    Symbol(Demangle<'s>, &'s str),
+    /// The text is this symbol with this suffix. A part of the first path may be printed.
+    Part(Demangle<'s>, &'s str),
+    /// The text is not a symbol. A part of a path may be printed.
+    NoSymbol,
+    /// The limit or the sink rejected a piece before it was known whether the text is a symbol.
+    Unknown,
+}
+
+/// Reads a v0 symbol and prints its first path: with hashes or without them, and with its generic
+/// arguments or with `_` for them. Returns what is known of the text then, which must be ASCII.
 ///
-/// Returns `None` if the text is not a v0 symbol. Also returns `None` if a lifetime or a reference
-/// of the path has an error, if the limit or the sink rejects a piece, if the path is nested
-/// deeply, or if its references lead back too far for the length of the text. Then an unknown part
-/// of the path may be printed, and `demangle` says whether the text is a symbol.
+/// If the path has few references, the text is read once. Otherwise, and after an error, the text
+/// is validated before the rest of the path is printed. A path that is nested deeply may be printed
+/// in part.
+#[cfg(feature = "stream")]
 pub fn demangle_printed<'s, S: TextSink>(
     s: &'s str,
     out: &mut SizeLimitedFmtAdapter<'_, S>,
     form: Form,
-) -> Option<(Demangle<'s>, &'s str)> {
-    let inner = ascii_inner_of(s, true)?;
+) -> Printed<'s> {
+    let Some(inner) = ascii_inner_of(s, true) else {
+        return Printed::NoSymbol;
+    };
     let symbol = Symbol::new(inner);
     if !begins_path(&symbol, 0) {
-        return None;
+        return Printed::NoSymbol;
     }
     let source = Source {
         symbol: &symbol,
         form,
     };
-    let end = print_to_suffix(source, out)?;
-    Some((Demangle::new(symbol), &inner[end..]))
+    match print_to_suffix(source, out) {
+        Attempt::Printed(end) => Printed::Symbol(Demangle::new(symbol), &inner[end..]),
+        Attempt::Read(end) => Printed::Part(Demangle::new(symbol), &inner[end..]),
+        Attempt::NoPath => Printed::NoSymbol,
+        Attempt::Unknown => Printed::Unknown,
+    }
 }

@@ -2,6 +2,8 @@
 //! Prints the first path of a v0 symbol. Each step prints what it reads as soon as it is known.
 
 use crate::demangle_sink::{SinkRefused, SizeLimitedFmtAdapter, TextSink};
+#[cfg(feature = "stream")]
+use crate::demangle_v0::fuel::Fuel;
 use crate::demangle_v0::parser::Continuation;
 use crate::demangle_v0::parser::frames::{FULL_STACK, MIDDLE_STACK, UNUSED_FRAME};
 use crate::demangle_v0::parser::machine::Parser;
@@ -19,11 +21,10 @@ pub enum Unfinished {
 }
 
 impl Parser<'_, '_> {
-    /// Prints until nothing is left or the stack is full. Returns what is left if the stack is
-    /// full.
+    /// Prints until nothing is left or the stack is full. A parse with a budget also stops when its
+    /// fuel is used up. Returns what is left then.
     ///
-    /// Fails at the first piece that the limit or the sink rejects. A parse with a budget also fails
-    /// when its fuel is used up.
+    /// Fails at the first piece that the limit or the sink rejects.
     // All prints share this loop. With two, the compiler would put the continuations into neither.
     #[inline(never)]
     fn print_steps<S: TextSink>(
@@ -33,18 +34,22 @@ impl Parser<'_, '_> {
     ) -> Result<Option<Unfinished>, SinkRefused> {
         let mut continuation = self.continuation;
         while self.stack.has_room() {
+            if !self.fuel.pay_step(has_budget) {
+                self.continuation = continuation;
+                return Ok(Some(Unfinished::Printing));
+            }
             let Some(at) = self.resume(0, continuation) else {
                 self.continuation = Continuation::End;
                 return Ok(None);
             };
-            if !self.fuel.pay_step(has_budget) {
-                return Err(SinkRefused);
-            }
             // An impl path only identifies the impl, and arguments may be folded. They are read and
             // not printed.
             if is_skipped(at, self.source.form) {
                 self.continuation = at;
-                if let Some(left) = self.skip_for_fuel(has_budget)? {
+                if !self.may_skip(has_budget) {
+                    return Ok(Some(Unfinished::Printing));
+                }
+                if let Some(left) = self.skip_for_fuel() {
                     return Ok(Some(left));
                 }
                 continuation = self.continuation;
@@ -131,58 +136,40 @@ impl Parser<'_, '_> {
         }
     }
 
-    /// Prints what is left within the budget, in a larger stack. Returns `true` if nothing is left.
+    /// Prints until nothing is left, the fuel is used up, or the stack is full. Returns what is left.
+    ///
+    /// Fails at the first piece that the limit or the sink rejects.
+    #[cfg(feature = "stream")]
+    #[cfg_attr(not(debug_assertions), inline(always))]
+    pub(crate) fn print_within<S: TextSink>(
+        &mut self,
+        out: &mut SizeLimitedFmtAdapter<'_, S>,
+    ) -> Result<Option<Unfinished>, SinkRefused> {
+        self.print_steps(out, true)
+    }
+
+    /// Returns the place after a path that was printed within the budget. Returns `None` if anything
+    /// is left of it or no fuel is left, as after an error.
+    #[cfg(feature = "stream")]
+    #[cfg_attr(not(debug_assertions), inline(always))]
+    pub(crate) fn end_within(&self, left: Option<Unfinished>) -> Option<usize> {
+        match left {
+            None if self.fuel.left > 0 => self.place(),
+            _ => None,
+        }
+    }
+
+    /// Prints what is left of a valid symbol, in larger stacks if this one is full.
+    ///
+    /// Fails at the first piece that the limit or the sink rejects.
+    #[cfg(feature = "stream")]
     #[inline(never)]
-    fn print_in_middle_stack_within<S: TextSink>(
+    pub(crate) fn print_validated<S: TextSink>(
         &mut self,
         out: &mut SizeLimitedFmtAdapter<'_, S>,
-    ) -> bool {
-        let mut memory = [UNUSED_FRAME; MIDDLE_STACK];
-        let mut parser = self.in_larger_stack(&mut memory);
-        let printed = parser.print_steps(out, true);
+    ) -> Result<(), SinkRefused> {
+        self.fuel = Fuel::none();
 
-        self.fuel = parser.fuel;
-        self.state = parser.state;
-        match printed {
-            Ok(None) => true,
-            Ok(Some(_)) | Err(_) => false,
-        }
-    }
-
-    /// Prints within the budget until nothing is left. Returns `true` if nothing is left.
-    ///
-    /// If the stack becomes full within a part that is not printed, no fuel is left.
-    #[cfg_attr(not(debug_assertions), inline(always))]
-    fn print_within<S: TextSink>(&mut self, out: &mut SizeLimitedFmtAdapter<'_, S>) -> bool {
-        match self.print_steps(out, true) {
-            Ok(None) => true,
-            Ok(Some(Unfinished::Printing)) => {
-                if self.fuel.left == 0 {
-                    return false;
-                }
-                self.print_in_middle_stack_within(out)
-            }
-            Ok(Some(Unfinished::ImplPath(_, _))) | Err(_) => false,
-        }
-    }
-
-    /// Prints until nothing is left, and leaves no frames. Returns the place after that.
-    ///
-    /// Returns `None` after a syntax error, if the limit or the sink rejects a piece, if two stacks
-    /// are full, or if the fuel is used up.
-    #[cfg_attr(not(debug_assertions), inline(always))]
-    pub(crate) fn print_to_place<S: TextSink>(
-        &mut self,
-        out: &mut SizeLimitedFmtAdapter<'_, S>,
-    ) -> Option<usize> {
-        if !self.print_within(out) {
-            return None;
-        }
-
-        if self.fuel.left == 0 {
-            return None;
-        }
-        self.stack.truncate(0);
-        self.place()
+        self.print_path(out)
     }
 }

@@ -1,14 +1,18 @@
 // Made from crates/demangle_v0/src/validation.rt by packaging/crate/erase.py: edit that file instead.
 //! Validates v0 symbols: parses them without output, and finds the suffix.
 
+#[cfg(feature = "stream")]
 use crate::demangle_v0::fuel::Fuel;
 
+#[cfg(feature = "stream")]
 use crate::demangle_sink::{SizeLimitedFmtAdapter, TextSink};
 use crate::demangle_symbol::cursor::Symbol;
 use crate::demangle_symbol::form::Form;
 use crate::demangle_v0::parser::frames::{FULL_STACK, MIDDLE_STACK, SHORT_STACK, UNUSED_FRAME};
 use crate::demangle_v0::parser::machine::Parser;
 use crate::demangle_v0::parser::steps::ReadOutcome;
+#[cfg(feature = "stream")]
+use crate::demangle_v0::printer::Unfinished;
 use crate::demangle_v0_tokens::source::Source;
 
 impl Parser<'_, '_> {
@@ -96,34 +100,85 @@ pub fn begins_path(symbol: &Symbol<'_>, place: usize) -> bool {
     matches!(symbol.byte(place,), Some(b'A'..=b'Z'))
 }
 
-/// Prints the first path, at which the parser is, and reads a second one. Returns the place of the
-/// suffix after them, or `None` as `print_to_suffix` does.
-#[cfg_attr(not(debug_assertions), inline(always))]
-fn printed_suffix<S: TextSink>(
-    parser: &mut Parser<'_, '_>,
-    out: &mut SizeLimitedFmtAdapter<'_, S>,
-) -> Option<usize> {
-    let end = parser.print_to_place(out)?;
-    if begins_path(parser.source.symbol, end) {
-        // Arguments are folded only when they are printed.
-        parser.source.form.fold_arguments = false;
-        return parser.path_end(end);
-    }
-    Some(end)
+/// What is known of a symbol whose first path was printed before it was validated.
+#[cfg(feature = "stream")]
+#[derive(Clone, Copy)]
+pub enum Attempt {
+    /// The first path was printed, and the suffix begins at this place.
+    Printed(usize),
+    /// The suffix begins at this place. A part of the first path may be printed.
+    Read(usize),
+    /// A path has an error. A part of the first path may be printed.
+    NoPath,
+    /// The limit or the sink rejected a piece.
+    Unknown,
 }
 
-/// Prints the first path of a symbol, and reads a second one. Returns the place of the suffix after
-/// them.
+/// Returns whether a suffix may begin at a place: the end, or a `.`.
+#[cfg(feature = "stream")]
+fn may_begin_suffix(symbol: &Symbol<'_>, place: usize) -> bool {
+    place == symbol.len() || symbol.is_at(b'.', place)
+}
+
+/// Reads a second path after the first one, which was printed and ends at a place.
+#[cfg(feature = "stream")]
+#[cfg_attr(not(debug_assertions), inline(always))]
+fn after_first_path(parser: &mut Parser<'_, '_>, end: usize) -> Attempt {
+    if !begins_path(parser.source.symbol, end) {
+        return Attempt::Printed(end);
+    }
+    // Arguments are folded only when they are printed.
+    parser.source.form.fold_arguments = false;
+    parser.stack.truncate(0);
+    match parser.path_end(end) {
+        Some(end) => Attempt::Printed(end),
+        None => Attempt::NoPath,
+    }
+}
+
+/// Prints the first path, at which the parser is, and reads a second one, as `print_to_suffix` does.
+#[cfg(feature = "stream")]
+#[cfg_attr(not(debug_assertions), inline(always))]
+fn printed_first<S: TextSink>(
+    parser: &mut Parser<'_, '_>,
+    out: &mut SizeLimitedFmtAdapter<'_, S>,
+) -> Attempt {
+    let Ok(left) = parser.print_within(out) else {
+        return Attempt::Unknown;
+    };
+    if let Some(end) = parser.end_within(left) {
+        return after_first_path(parser, end);
+    }
+    let Some(end) = suffix_at(parser.source.symbol) else {
+        return Attempt::NoPath;
+    };
+    if !may_begin_suffix(parser.source.symbol, end) {
+        return Attempt::Read(end);
+    }
+    let is_printed = match left {
+        None => true,
+        Some(Unfinished::Printing) => parser.print_validated(out).is_ok(),
+        Some(Unfinished::ImplPath(_, _)) => false,
+    };
+    if is_printed {
+        Attempt::Printed(end)
+    } else {
+        Attempt::Read(end)
+    }
+}
+
+/// Prints the first path of a symbol, and reads a second one. Returns what is known of the symbol
+/// then.
 ///
-/// Returns `None` after a syntax error, if the limit or the sink rejects a piece, if two stacks are
-/// too short, or if the path has too many steps for the length of the symbol. Then an unknown part
-/// of the path may be printed.
+/// The path is printed before it is known whether the symbol is valid, until the fuel is used up.
+/// Then the symbol is validated, and only the rest of a valid one is printed.
+#[cfg(feature = "stream")]
 pub fn print_to_suffix<S: TextSink>(
     source: Source<'_>,
     out: &mut SizeLimitedFmtAdapter<'_, S>,
-) -> Option<usize> {
+) -> Attempt {
     let mut memory = [UNUSED_FRAME; SHORT_STACK];
     let mut parser = Parser::at_path(source, 0, &mut memory);
-    parser.fuel = Fuel::of(source.symbol.len());
-    printed_suffix(&mut parser, out)
+    parser.fuel = Fuel::for_run(source.symbol.len());
+    printed_first(&mut parser, out)
 }

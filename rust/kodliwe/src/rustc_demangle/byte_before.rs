@@ -21,7 +21,10 @@ impl ByteBefore {
     /// Returns what a byte is for the text after it.
     #[cfg_attr(not(debug_assertions), inline(always))]
     fn of(byte: u8) -> Self {
-        if byte.is_ascii_alphanumeric() {
+        // Most text before a run ends with a space.
+        if byte <= b' ' {
+            ByteBefore::Outside
+        } else if byte.is_ascii_alphanumeric() {
             ByteBefore::Alphanumeric
         } else if is_run_byte(byte) {
             ByteBefore::Mark

@@ -2,25 +2,31 @@
 //! A sink that passes pieces on together.
 
 use crate::demangle_sink::{SinkRefused, TextSink};
+#[cfg(feature = "stream")]
+use crate::rustc_demangle::format::Format;
 use crate::rustc_demangle::value::Demangle;
 use crate::support::arrayvec::ArrayString;
 
-/// The most bytes that are held.
-const MOST_HELD: usize = 256;
+/// The most bytes that are held for a formatter.
+const MOST_FORMATTED: usize = 256;
 
-/// Holds pieces, and passes them to a sink together.
+/// The most bytes that are held for a filter, which are those of the longest text of its memo.
+#[cfg(feature = "stream")]
+const MOST_FILTERED: usize = 2048;
+
+/// Holds pieces of up to `MOST` bytes, and passes them to a sink together.
 ///
 /// The sink gets the held text before a piece that does not fit after it, and by `flush`. A piece of
-/// more than `MOST_HELD` bytes is passed on alone. So what the sink got is always a prefix of the
-/// text that ends between two pieces, and after `flush` it is all of it.
-pub(crate) struct CoalescingSink<'s, S: TextSink> {
+/// more than `MOST` bytes is passed on alone. So what the sink got is always a prefix of the text that
+/// ends between two pieces, and after `flush` it is all of it.
+struct CoalescingSink<'s, S: TextSink, const MOST: usize> {
     out: &'s mut S,
-    held: ArrayString<MOST_HELD>,
+    held: ArrayString<MOST>,
 }
 
-impl<'s, S: TextSink> CoalescingSink<'s, S> {
+impl<'s, S: TextSink, const MOST: usize> CoalescingSink<'s, S, MOST> {
     /// Returns a sink that passes pieces to this one. It holds nothing.
-    pub(crate) fn new(out: &'s mut S) -> Self {
+    fn new(out: &'s mut S) -> Self {
         CoalescingSink {
             out,
             held: ArrayString::new(),
@@ -32,7 +38,7 @@ impl<'s, S: TextSink> CoalescingSink<'s, S> {
     /// # Errors
     ///
     /// Returns `SinkRefused` if the sink rejects it.
-    pub(crate) fn flush(&mut self) -> Result<(), SinkRefused> {
+    fn flush(&mut self) -> Result<(), SinkRefused> {
         if self.held.is_empty() {
             return Ok(());
         }
@@ -45,7 +51,7 @@ impl<'s, S: TextSink> CoalescingSink<'s, S> {
     #[inline(never)]
     fn put_after_flush(&mut self, s: &str) -> Result<(), SinkRefused> {
         self.flush()?;
-        if s.len() > MOST_HELD {
+        if s.len() > MOST {
             self.out.put(s)?;
         } else {
             self.held.push_str(s);
@@ -54,7 +60,7 @@ impl<'s, S: TextSink> CoalescingSink<'s, S> {
     }
 }
 
-impl<'s, S: TextSink> TextSink for CoalescingSink<'s, S> {
+impl<'s, S: TextSink, const MOST: usize> TextSink for CoalescingSink<'s, S, MOST> {
     fn put(&mut self, s: &str) -> Result<(), SinkRefused> {
         if s.len() > self.held.remaining_capacity() {
             return self.put_after_flush(s);
@@ -78,7 +84,24 @@ pub(crate) fn write_coalesced<S: TextSink>(
     out: &mut S,
     include_hash: bool,
 ) -> Result<(), SinkRefused> {
-    let mut pieces = CoalescingSink::new(out);
+    let mut pieces = CoalescingSink::<'_, S, MOST_FORMATTED>::new(out);
     symbol.write_to(&mut pieces, include_hash)?;
+    pieces.flush()
+}
+
+/// Prints a symbol into a sink in a format, and passes its pieces on together. A text of up to 2,048
+/// bytes is passed on at once.
+///
+/// # Errors
+///
+/// Returns `SinkRefused` if the sink rejects a text. It then got a prefix of the pieces' text.
+#[cfg(feature = "stream")]
+pub(crate) fn write_at_once<S: TextSink>(
+    symbol: &Demangle<'_>,
+    out: &mut S,
+    format: Format,
+) -> Result<(), SinkRefused> {
+    let mut pieces = CoalescingSink::<'_, S, MOST_FILTERED>::new(out);
+    symbol.write_formatted(&mut pieces, format)?;
     pieces.flush()
 }

@@ -5,7 +5,6 @@ mod byte_before;
 mod coalescing;
 mod display;
 mod format;
-mod printed_first;
 mod runs;
 pub mod sink;
 mod slice;

@@ -4,36 +4,32 @@
 use crate::demangle_sink::{SinkRefused, SliceSink};
 use crate::rustc_demangle::byte_before::ByteBefore;
 use crate::rustc_demangle::format::Format;
-use crate::rustc_demangle::printed_first::{Credit, put_run_first};
 use crate::rustc_demangle::runs::{run_len, run_start, run_text};
+use crate::rustc_demangle::text::put_run;
 
 /// Writes the replacement of a candidate. Fails if the sink fails.
-///
-/// `credit` says whether the run may be printed before it is known to be a symbol.
 fn put_candidate<'b>(
     candidate: &[u8],
     before: ByteBefore,
     out: &mut SliceSink<'b>,
     format: Format,
-    credit: &mut Credit,
 ) -> Result<(), SinkRefused> {
     if before.is_alphanumeric() {
         return out.put_bytes(candidate);
     }
-    put_run_first(run_text(candidate), out, format, credit)
+    put_run(run_text(candidate), out, format)
 }
 
 /// Writes bytes, which need not be UTF-8, with each symbol of them demangled. Fails if the sink
 /// fails.
 fn put_slice<'b>(text: &[u8], out: &mut SliceSink<'b>, format: Format) -> Result<(), SinkRefused> {
     let mut rest = text;
-    let mut credit = Credit::new();
     while let Some(start) = run_start(rest) {
         let before = ByteBefore::Outside;
         let (kept, found) = rest.split_at(before.plain_len(&rest[..start]));
         let (candidate, following) = found.split_at(run_len(found));
         out.put_bytes(kept)?;
-        put_candidate(candidate, before.after(kept), out, format, &mut credit)?;
+        put_candidate(candidate, before.after(kept), out, format)?;
         rest = following;
     }
     out.put_bytes(rest)

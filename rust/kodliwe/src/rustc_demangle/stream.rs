@@ -9,6 +9,7 @@ use std::io::{BufRead, Write};
 
 mod buffer_sink;
 mod bytes;
+mod credit;
 mod fault;
 mod line_reader;
 mod line_writer;

@@ -4,7 +4,7 @@
 use crate::support::memchr::memrchr;
 
 /// The most bytes at the end of a text that are read one by one.
-const MAX_TAIL: usize = 16;
+const MAX_TAIL: usize = 4;
 
 /// Returns whether this byte may follow `.llvm.`.
 #[cfg_attr(not(debug_assertions), inline(always))]

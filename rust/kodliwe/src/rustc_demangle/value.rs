@@ -98,32 +98,42 @@ fn read_style(text: &str, is_ascii: bool) -> Option<(DemangleStyle<'_>, &str)> {
     }
 }
 
-/// Returns the style and the suffix of a text, or `None` if it is not a symbol.
-fn style_of(text: &str, is_ascii: bool) -> Option<(DemangleStyle<'_>, &str)> {
-    let (style, suffix) = read_style(text, is_ascii)?;
-    if is_allowed(suffix) {
-        Some((style, suffix))
-    } else {
-        None
-    }
-}
-
 impl<'a> Demangle<'a> {
+    /// Returns a text that is not a symbol.
+    pub(crate) fn without_style(text: &'a str) -> Demangle<'a> {
+        Demangle {
+            style: None,
+            original: text,
+            suffix: "",
+        }
+    }
+
+    /// Returns the symbol that a scheme parses a text to, or the text as it is if the suffix is not
+    /// allowed.
+    pub(crate) fn with_style(
+        text: &'a str,
+        style: DemangleStyle<'a>,
+        suffix: &'a str,
+        allowed: bool,
+    ) -> Demangle<'a> {
+        if !allowed {
+            return Demangle::without_style(text);
+        }
+        Demangle {
+            style: Some(style),
+            original: text,
+            suffix,
+        }
+    }
+
     /// Parses a text as a symbol, and keeps it as it is if it is not one. `is_ascii` says that it
     /// is known to be ASCII.
     pub(crate) fn read(text: &'a str, is_ascii: bool) -> Demangle<'a> {
-        match style_of(text, is_ascii) {
-            Some((style, suffix)) => Demangle {
-                style: Some(style),
-                original: text,
-                suffix,
-            },
-            None => Demangle {
-                style: None,
-                original: text,
-                suffix: "",
-            },
-        }
+        let Some((style, suffix)) = read_style(text, is_ascii) else {
+            return Demangle::without_style(text);
+        };
+        let allowed = is_allowed(suffix);
+        Demangle::with_style(text, style, suffix, allowed)
     }
 
     /// Parses a run as a symbol. Keeps it as it is if it is not one. A run is ASCII.

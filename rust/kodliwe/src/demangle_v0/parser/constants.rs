@@ -9,11 +9,9 @@ use crate::demangle_v0_tokens::tags::{ConstantKind, constant_kind};
 use crate::demangle_v0_tokens::token::TokenKind;
 
 impl Parser<'_, '_> {
-    /// Reads and prints a string, with which the constant ends. It leaves no fuel, because its
-    /// characters are slow to print.
+    /// Reads and prints a string, with which the constant ends.
     #[inline(never)]
     pub(super) fn literal<V: Output>(&mut self, output: &mut V) -> Result<Continuation, StepError> {
-        self.fuel.use_up();
         self.end_with_token(TokenKind::StrLiteral, output)
     }
 
@@ -57,18 +55,20 @@ impl Parser<'_, '_> {
         self.number(output)
     }
 
-    /// Reads a string, or starts a shared reference, after its `R`.
+    /// Starts a string or a shared reference, after its `R`.
     #[cfg_attr(not(debug_assertions), inline(always))]
-    fn shared_reference<V: Output>(&mut self, output: &mut V) -> Result<Continuation, StepError> {
+    fn shared_reference(&mut self) -> Continuation {
         let Some(at) = self.state.place else {
-            return Ok(self.with_braces(Continuation::ReferenceConstant));
+            return self.with_braces(Continuation::ReferenceConstant);
         };
         // `Re` is printed as `".."`, which has the type `&str`, and not as `&*".."`.
         if self.source.symbol.is_at(b'e', at) {
             self.state.place = Some(at + 1);
-            return self.literal(output);
+            // The characters of a string are slow to print.
+            self.fuel.use_up();
+            return Continuation::StrLiteral;
         }
-        Ok(self.with_braces(Continuation::ReferenceConstant))
+        self.with_braces(Continuation::ReferenceConstant)
     }
 
     /// Starts the path of a variant, after its `V`.
@@ -100,8 +100,12 @@ impl Parser<'_, '_> {
             ConstantKind::Signed => self.signed_number(tag, output),
             ConstantKind::Bool => self.end_with_token(TokenKind::Bool, output),
             ConstantKind::Char => self.end_with_token(TokenKind::Character, output),
-            ConstantKind::Text => Ok(self.with_braces(Continuation::StrConstant)),
-            ConstantKind::Shared => self.shared_reference(output),
+            ConstantKind::Text => {
+                // The characters of a string are slow to print.
+                self.fuel.use_up();
+                Ok(self.with_braces(Continuation::StrConstant))
+            }
+            ConstantKind::Shared => Ok(self.shared_reference()),
             ConstantKind::Mut => Ok(self.with_braces(Continuation::MutReferenceConstant)),
             ConstantKind::Array => Ok(self.with_braces(Continuation::ArrayConstant)),
             ConstantKind::Tuple => Ok(self.with_braces(Continuation::TupleConstant)),
@@ -120,6 +124,7 @@ impl Parser<'_, '_> {
         let (tag, next) = self.source.symbol.tag(at)?;
         // Every constant raises the depth, even a number or a placeholder. A basic type does not.
         self.enter()?;
+        self.fuel.spend();
         self.state.place = Some(next);
         self.tagged_constant(tag, output)
     }

@@ -5,6 +5,7 @@ use crate::support::rt::HostRuntime;
 use crate::support::string::String;
 
 use crate::demangle_symbol::form::Form;
+use crate::demangle_v0::Printed;
 use crate::support::alloc::{AllocError, Global};
 
 use crate::support::test::Fail;
@@ -14,14 +15,19 @@ const PLAIN: Form = Form {
     fold_arguments: false,
 };
 
-/// Returns whether a text is printed at once, up to a limit of bytes.
-fn is_printed(text: &str, form: Form, limit: usize) -> bool {
+/// Returns whether the path of a text is printed before the text is validated. The text ends with an
+/// `x`, which is no suffix. So what is not printed by then is not printed at all.
+fn is_printed_first(text: &str, limit: usize) -> bool {
     if !text.is_ascii() {
         return false;
     }
     let mut sink: ArraySink<4096> = ArraySink::new();
     let mut out = SizeLimitedFmtAdapter::new(&mut sink, limit);
-    crate::demangle_v0::demangle_printed(text, &mut out, form).is_some()
+
+    matches!(
+        crate::demangle_v0::demangle_printed(text, &mut out, PLAIN,),
+        Printed::Symbol(_, "x")
+    )
 }
 
 /// Returns the beginning of a generic path, then a part so many times, and an end.
@@ -31,26 +37,39 @@ fn repeated(alloc: Global, begin: &str, part: &str, count: usize) -> Result<Stri
     for _ in 0..count {
         symbol.push_str(part)?;
     }
-    symbol.push_str("E")?;
+    symbol.push_str("Ex")?;
     Ok(symbol)
 }
 
-fn assert_is_printed(text: &str, is_wanted: bool) {
-    assert_eq!(is_printed(text, PLAIN, 4096), is_wanted, "of {text}");
+fn assert_is_printed_first(text: &str, is_wanted: bool) {
+    assert_eq!(is_printed_first(text, 4096), is_wanted, "of {text}");
+}
+
+/// Asserts that a valid symbol prints this text.
+fn assert_prints_whole(symbol: &str, wanted: &str) {
+    assert!(symbol.is_ascii());
+    let mut sink: ArraySink<4096> = ArraySink::new();
+    let mut out = SizeLimitedFmtAdapter::new(&mut sink, 4096);
+
+    let printed = crate::demangle_v0::demangle_printed(symbol, &mut out, PLAIN);
+    assert!(matches!(printed, Printed::Symbol(_, "")), "of {symbol}");
+    assert_eq!(sink.as_str(), wanted, "of {symbol}");
 }
 
 #[test]
-fn symbols_of_each_kind_are_printed() {
+fn paths_of_each_kind_are_printed_first() {
     for text in [
-        "_RNvNtCs1234_7mycrate3foo3bar",
-        "_RNvNtCs1234_7mycrate3foo3barNtB2_3foo",
-        "_RNvXs_NtCs1234_7mycrate3fooNtB4_3BarNtB4_5Trait3baz",
-        "_RINvNtCs1234_7mycrate3foo3barKc41_Kb1_Kan5_E",
-        "_RINvNtCs1234_7mycrate3foo3barDNtB4_5Traitp4ItemhEL_E",
-        "_RINvNtCs1234_7mycrate3foo3barFG0_RL0_hEuE",
-        "_RNCNvNtCs1234_7mycrate3foo3bars_0",
+        "_RNvNtCs1234_7mycrate3foo3barx",
+        "_RNvNtCs1234_7mycrate3foo3barNtB2_3foox",
+        "_RNvMs_NtCs1234_7mycrate3fooNtB4_3Bar3bazx",
+        "_RNvXs_NtCs1234_7mycrate3fooNtB4_3BarNtB4_5Trait3bazx",
+        "_RINvNtCs1234_7mycrate3foo3barNtB2_1aNtB2_1bNtB2_1cNtB2_1dEx",
+        "_RINvNtCs1234_7mycrate3foo3barKc41_Ex",
+        "_RINvNtCs1234_7mycrate3foo3barDNtB4_5Traitp4ItemhEL_Ex",
+        "_RINvNtCs1234_7mycrate3foo3barFG0_RL0_hEuEx",
+        "_RNCNvNtCs1234_7mycrate3foo3bars_0x",
     ] {
-        assert_is_printed(text, true);
+        assert_is_printed_first(text, true);
     }
 }
 
@@ -58,16 +77,19 @@ fn symbols_of_each_kind_are_printed() {
 fn slow_parts_use_up_the_fuel() {
     for text in [
         // Punycode: of a crate, of nested paths, of an associated type, and within a reference.
-        "_RNvCu9bcher_kva3foo",
-        "_RNvC1au9bcher_kva",
-        "_RNtNvC1au9bcher_kva1b",
-        "_RIC1aDC1bpu9bcher_kvahEL_E",
-        "_RIC12Cu9bcher_kvaB3_E",
-        // Strings.
-        "_RIC1aKRe616263_E",
-        "_RIC1aKRe_E",
+        "_RNvCu9bcher_kva3foox",
+        "_RNvC1au9bcher_kvax",
+        "_RNtNvC1au9bcher_kva1bx",
+        "_RIC1aDC1bpu9bcher_kvahEL_Ex",
+        "_RIC12Cu9bcher_kvaB3_Ex",
+        // Strings, and the second constant or function type.
+        "_RIC1aKRe616263_Ex",
+        "_RIC1aKRe_Ex",
+        "_RIC1aKe616263_Ex",
+        "_RIC1aKj1_Kj2_Ex",
+        "_RIC1aFEuFEuEx",
     ] {
-        assert_is_printed(text, false);
+        assert_is_printed_first(text, false);
     }
 }
 
@@ -75,35 +97,63 @@ fn slow_parts_use_up_the_fuel() {
 fn references_have_little_fuel() -> Result<(), Fail> {
     let rt = HostRuntime;
     let alloc = rt.alloc();
-    // Each reference has six steps and five bytes. They use up 32, and its own bytes earn 12.
-    for (count, is_wanted) in [(1usize, true), (3, true), (20, false), (100, false)] {
-        let symbol = repeated(alloc, "_RINvC1a1bRRRRu", "B7_", count)?;
-        assert_is_printed(symbol.as_str(), is_wanted);
-    }
-    // Bytes outside of references earn more.
-    let mut begin = String::new(alloc);
-    begin.push_str("_RINvC1a1bC120")?;
-    for _ in 0..120usize {
-        begin.push_str("a")?;
-    }
-    begin.push_str("RRRRu")?;
-    for (count, is_wanted) in [(20usize, true), (200, false)] {
-        let symbol = repeated(alloc, begin.as_str(), "B27_", count)?;
-        assert_is_printed(symbol.as_str(), is_wanted);
+    // Each reference has six steps and five bytes, which use up 32. There are 64 at the start, and the
+    // first 13 bytes earn 52, and each reference 12.
+    for (count, is_wanted) in [
+        (1usize, true),
+        (3, true),
+        (5, true),
+        (6, false),
+        (40, false),
+    ] {
+        let text = repeated(alloc, "_RINvC1a1bRRRRu", "B7_", count)?;
+        assert_is_printed_first(text.as_str(), is_wanted);
     }
     Ok(())
 }
 
 #[test]
+fn a_long_name_earns_fuel_for_references() -> Result<(), Fail> {
+    let rt = HostRuntime;
+    let alloc = rt.alloc();
+    let mut begin = String::new(alloc);
+    begin.push_str("_RINvC1a1bC240")?;
+    for _ in 0..240usize {
+        begin.push_str("a")?;
+    }
+    begin.push_str("RRRRu")?;
+    let text = repeated(alloc, begin.as_str(), "B43_", 40)?;
+    assert_is_printed_first(text.as_str(), true);
+    Ok(())
+}
+
+#[test]
 fn targets_that_enclose_their_references_end_at_once() {
-    for text in ["_RIC1aTuB3_EE", "_RYTuB0_EC1a", "_RINvC1a1bTuTB7_EEE"] {
-        assert_is_printed(text, false);
+    for text in ["_RIC1aTuB3_EEx", "_RYTuB0_EC1ax", "_RINvC1a1bTuTB7_EEEx"] {
+        assert_is_printed_first(text, false);
     }
 }
 
 #[test]
 fn a_text_ends_at_the_limit() {
-    let text = "_RNvNtCs1234_7mycrate3foo3bar";
-    assert!(is_printed(text, PLAIN, 24));
-    assert!(!is_printed(text, PLAIN, 23));
+    let text = "_RNvNtCs1234_7mycrate3foo3barx";
+    assert!(is_printed_first(text, 24));
+    assert!(!is_printed_first(text, 23));
+}
+
+#[test]
+fn the_rest_of_a_valid_symbol_is_printed() {
+    for (symbol, wanted) in [
+        ("_RNvCu9bcher_kva3foo", "bücher::foo"),
+        ("_RIC1aKRe616263_E", "a::<\"abc\">"),
+        ("_RIC1aKe616263_E", "a::<{*\"abc\"}>"),
+        ("_RIC1aKj1_Kj2_Kj3_E", "a::<1usize, 2usize, 3usize>"),
+        ("_RIC1aFEuFEuE", "a::<fn(), fn()>"),
+        (
+            "_RINvC1a1bRRRRuB7_B7_B7_B7_E",
+            "a::b::<&&&&(), &&&&(), &&&&(), &&&&(), &&&&()>",
+        ),
+    ] {
+        assert_prints_whole(symbol, wanted);
+    }
 }

@@ -1,15 +1,19 @@
 // Made from crates/demangle_vectors/src/tests/slices.rt by packaging/crate/erase.py: edit that file instead.
-//! Tests of v0 runs in memory. Some are printed before they are known to be symbols. The expected
-//! texts are those of the Rust crate.
+//! Tests of v0 runs, in memory and by a filter, which prints them before they are known to be
+//! symbols. The expected texts are those of the Rust crate.
 use crate::rustc_demangle::sink::WriteSink;
-use crate::rustc_demangle::{Format, demangle_slice_formatted, demangle_text_formatted};
+use crate::rustc_demangle::{
+    Format, demangle_bytes_formatted, demangle_slice_formatted, demangle_text_formatted,
+};
 use crate::support::alloc::{AllocError, Global};
 use crate::support::format;
 use crate::support::rt::HostRuntime;
 use crate::support::string::String;
 use crate::support::vec::Vec;
+use std::io::ErrorKind;
 
 use crate::support::test::Fail;
+use crate::test_doubles::streams::ChunkReader;
 
 const DIGITS: &[u8] = b"0123456789abcdefghijklmnopqrstuvwxyzABCDEFGHIJKLMNOPQRSTUVWXYZ";
 
@@ -91,8 +95,23 @@ fn assert_filters_to(text: &str, format: Format, wanted: &[u8]) {
     );
 }
 
-/// Asserts that a call writes into memory what another call puts into a sink, which validates each
-/// run before it prints it.
+/// Asserts what a filter writes for a text.
+fn assert_filter_writes(
+    alloc: Global,
+    text: &str,
+    format: Format,
+    wanted: &[u8],
+) -> Result<(), Fail> {
+    let parts = [text.as_bytes()];
+    let mut input = ChunkReader::new(&parts, usize::MAX, ErrorKind::Other);
+    let mut output = Vec::new(alloc);
+    let result = demangle_bytes_formatted(alloc, &mut input, &mut output, format);
+    assert!(result.is_ok(), "of {text}");
+    assert_eq!(output.as_slice(), wanted, "of {text}");
+    Ok(())
+}
+
+/// Asserts that a call writes into memory what another call puts into a sink.
 fn assert_filters_alike(alloc: Global, text: &str) -> Result<(), Fail> {
     for limit in [0, 5, 767, 768, 1_000_000] {
         for include_hash in [true, false] {
@@ -168,9 +187,9 @@ fn runs_of_each_kind() -> Result<(), Fail> {
     Ok(())
 }
 
-/// Runs with their texts, plain and folded. Most are printed first. The last is too short for that,
-/// and those after a name that is cut off are probably not complete.
-const LONG_RUNS: [(&str, &str, &str); 19] = [
+/// Runs with their texts, plain and folded. A filter prints all but the last first, which has fewer
+/// than 20 bytes.
+const LONG_RUNS: [(&str, &str, &str); 21] = [
     (
         "_RNvNtCs1234abcd_7mycrate3foo3bar",
         "mycrate[34f0b3031b3]::foo::bar",
@@ -266,15 +285,23 @@ const LONG_RUNS: [(&str, &str, &str); 19] = [
         "mycrate[da97884f0]::foo::bar",
         "mycrate[da97884f0]::foo::bar",
     ),
+    ("_RNvC4fooo9mycratesa", "fooo::mycratesa", "fooo::mycratesa"),
+    ("_RNvC3foo9mycratesa", "foo::mycratesa", "foo::mycratesa"),
 ];
 
 #[test]
 fn runs_that_may_be_printed_first() -> Result<(), Fail> {
     let rt = HostRuntime;
+    let alloc = rt.alloc();
     for (run, plain, folded) in LONG_RUNS {
-        assert_filters_to(run, Format::unfolded(true, 1_000_000), plain.as_bytes());
-        assert_filters_to(run, Format::folded(true, 1_000_000), folded.as_bytes());
-        assert_filters_alike(rt.alloc(), run)?;
+        for (format, wanted) in [
+            (Format::unfolded(true, 1_000_000), plain),
+            (Format::folded(true, 1_000_000), folded),
+        ] {
+            assert_filters_to(run, format, wanted.as_bytes());
+            assert_filter_writes(alloc, run, format, wanted.as_bytes())?;
+        }
+        assert_filters_alike(alloc, run)?;
     }
     Ok(())
 }
@@ -288,8 +315,10 @@ fn a_chain_of_references_takes_all_numbers_of_steps() -> Result<(), Fail> {
         let symbol = chain(alloc, count, "E")?;
         let text = arguments(alloc, "a::b", "()", count.saturating_add(1))?;
         assert_filters_to(symbol.as_str(), format, text.as_bytes());
+        assert_filter_writes(alloc, symbol.as_str(), format, text.as_bytes())?;
         let damaged = chain(alloc, count, "")?;
         assert_filters_to(damaged.as_str(), format, damaged.as_bytes());
+        assert_filter_writes(alloc, damaged.as_str(), format, damaged.as_bytes())?;
     }
     for count in [0usize, 4, 8, 16, 32, 40, 44, 48, 59] {
         assert_filters_alike(alloc, chain(alloc, count, "E")?.as_str())?;
@@ -309,24 +338,66 @@ fn assert_filters_names(alloc: Global, len: usize, count: usize) -> Result<(), F
     let text = arguments(alloc, "a", name.as_str(), count.saturating_add(1))?;
     let symbol = names(alloc, len, count, "E")?;
     assert_filters_to(symbol.as_str(), format, text.as_bytes());
+    assert_filter_writes(alloc, symbol.as_str(), format, text.as_bytes())?;
     let damaged = names(alloc, len, count, "")?;
     assert_filters_to(damaged.as_str(), format, damaged.as_bytes());
-    Ok(())
+    assert_filter_writes(alloc, damaged.as_str(), format, damaged.as_bytes())
+}
+
+/// Returns a tuple of a name of some length and three references to it, as the type of an impl.
+fn tuple_of_names(alloc: Global, len: usize, end: &str) -> Result<String, AllocError> {
+    let mut symbol = format!(in alloc; "_RMC1aTC{len}")?;
+    for _ in 0..len {
+        symbol.push_str("x")?;
+    }
+    for _ in 0..3usize {
+        push_reference(&mut symbol, 5, 0)?;
+    }
+    symbol.push_str(end)?;
+    Ok(symbol)
 }
 
 #[test]
-fn texts_have_all_lengths_about_that_of_the_buffer() -> Result<(), Fail> {
+fn folded_texts_have_all_lengths_about_the_longest() -> Result<(), Fail> {
     let rt = HostRuntime;
-    for count in 1..=2usize {
-        for len in (245..260usize).chain(360..385usize) {
-            assert_filters_names(rt.alloc(), len, count)?;
+    let alloc = rt.alloc();
+    let format = Format::folded(false, 1_000_000);
+    // A path with four names and 10 other bytes may have 1,600 bytes.
+    for len in 391..404usize {
+        let mut name = String::new(alloc);
+        for _ in 0..len {
+            name.push_str("x")?;
         }
+        let mut text = String::new(alloc);
+        text.push_str("<(")?;
+        for _ in 0..3usize {
+            text.push_str(name.as_str())?;
+            text.push_str(", ")?;
+        }
+        text.push_str(name.as_str())?;
+        text.push_str(")>")?;
+        let symbol = tuple_of_names(alloc, len, "E")?;
+        assert_filters_to(symbol.as_str(), format, text.as_bytes());
+        assert_filter_writes(alloc, symbol.as_str(), format, text.as_bytes())?;
+        let damaged = tuple_of_names(alloc, len, "")?;
+        assert_filters_to(damaged.as_str(), format, damaged.as_bytes());
+        assert_filter_writes(alloc, damaged.as_str(), format, damaged.as_bytes())?;
     }
     Ok(())
 }
 
 #[test]
-fn texts_have_all_lengths_about_twice_that_of_the_run() -> Result<(), Fail> {
+fn runs_have_all_lengths_about_the_longest() -> Result<(), Fail> {
+    let rt = HostRuntime;
+    // A run with one name and 14 other bytes may have 384 bytes.
+    for len in 364..376usize {
+        assert_filters_names(rt.alloc(), len, 1)?;
+    }
+    Ok(())
+}
+
+#[test]
+fn texts_have_all_lengths_about_four_times_the_run() -> Result<(), Fail> {
     let rt = HostRuntime;
     for count in 2..=9usize {
         for len in 10..40usize {

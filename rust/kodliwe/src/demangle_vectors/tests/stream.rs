@@ -34,8 +34,8 @@ pub(super) const ROWS: [(&[u8], &[u8]); 17] = [
     (b"_ZN3fooE.a~ _ZN3fooE.llvm.AG", b"foo.a~ foo.llvm.AG"),
 ];
 
-/// Lines, and their output by the calls over lines, which replace each run.
-const EACH_RUN: [(&[u8], &[u8]); 6] = [
+/// Texts, and their output by the calls over lines and texts, which replace each run.
+pub(super) const EACH_RUN: [(&[u8], &[u8]); 6] = [
     (b"__ZN3fooE", b"_foo"),
     (b"a_ZN3fooE", b"afoo"),
     (b"RC1a __RC1a _RC1aC1b", b"RC1a _a a"),

@@ -1,6 +1,6 @@
 // Made from crates/demangle_vectors/src/tests/texts.rt by packaging/crate/erase.py: edit that file instead.
 //! Tests of texts and bytes in memory, which are written to sinks and slices.
-use super::stream::ROWS;
+use super::stream::{EACH_RUN, ROWS};
 use crate::rustc_demangle::sink::{ArraySink, TextSink};
 use crate::rustc_demangle::{
     demangle_slice, demangle_text, demangle_text_limited, run_len, run_start,
@@ -12,7 +12,7 @@ use core::str;
 
 #[test]
 fn a_text_is_put_into_a_sink() -> Result<(), Fail> {
-    for (text, wanted) in ROWS {
+    for (text, wanted) in ROWS.iter().chain(EACH_RUN.iter()) {
         let text = str::from_utf8(text)?;
         for include_hash in [true, false] {
             let mut sink: ArraySink<256> = ArraySink::new();
@@ -20,7 +20,7 @@ fn a_text_is_put_into_a_sink() -> Result<(), Fail> {
                 demangle_text(text, &mut sink, include_hash).is_ok(),
                 "{text}"
             );
-            assert_eq!(sink.as_str().as_bytes(), wanted, "{text}");
+            assert_eq!(sink.as_str().as_bytes(), *wanted, "{text}");
         }
     }
     Ok(())

@@ -29,8 +29,9 @@ impl<A: Allocator> BytesFilter<A> {
     }
 
     /// Filters some of the reader's available bytes, and writes what is certain. Returns `false` at
-    /// the end of the input, after the pending bytes are written. The memo determines how symbols
-    /// are printed, and remembers their texts.
+    /// the end of the input, after the pending bytes are written. The filter is then as a new one,
+    /// and may read another input. The memo determines how symbols are printed, and remembers their
+    /// texts.
     ///
     /// # Errors
     ///
@@ -49,6 +50,7 @@ impl<A: Allocator> BytesFilter<A> {
         };
         if available.is_empty() {
             finish(&mut self.pending, output, memo)?;
+            self.pending.before = ByteBefore::Outside;
             return Ok(false);
         }
         let taken = filter_chunk(&mut self.pending, available, output, memo)?;
@@ -83,8 +85,8 @@ fn run_to_end<R: BufRead, W: Write, A: Allocator>(
 /// The input is read in the reader's chunks and not by lines. The bytes of a chunk between two runs
 /// are one write. Memory holds the unfinished run at the end of the bytes so far, and a
 /// `SymbolMemo`. So a repeated symbol is one write. So is a v0 symbol or a legacy symbol with a
-/// hash, if it has 20 to 2,048 bytes and prints up to 2,048. Each piece of another symbol is one
-/// write.
+/// hash, if it has 20 to 2,048 bytes and prints up to 2,048. If it prints more, it is written in
+/// parts. Each piece of another symbol is one write.
 ///
 /// # Errors
 ///

@@ -2,10 +2,10 @@
 //! Writes lines and runs with their symbols demangled.
 
 use crate::demangle_sink::WriteSink;
+use crate::rustc_demangle::coalescing::write_at_once;
 use crate::rustc_demangle::format::Format;
 use crate::rustc_demangle::text::demangle_text;
 use crate::rustc_demangle::value::Demangle;
-
 use std::io;
 use std::io::Write;
 
@@ -20,12 +20,53 @@ fn write_symbol<W: Write>(symbol: &Demangle<'_>, output: &mut W, format: Format)
     }
 }
 
+/// Writes a symbol, by one call of the writer if its text has up to 2,048 bytes. A longer text is
+/// written in parts. Fails if the writer fails.
+fn write_symbol_at_once<W: Write>(
+    symbol: &Demangle<'_>,
+    output: &mut W,
+    format: Format,
+) -> io::Result<()> {
+    let mut sink = WriteSink::new(output);
+    let written = write_at_once(symbol, &mut sink, format);
+    match sink.into_fault() {
+        Some(error) => Err(error),
+        // If it fails, the sink holds the writer's error.
+        None => written.map_err(|_| io::Error::other("the sink failed")),
+    }
+}
+
 /// Writes a run that is not a symbol, by one call of the writer. Fails if the writer fails.
 fn write_text<W: Write>(text: &str, output: &mut W) -> io::Result<()> {
     output.write_all(text.as_bytes())
 }
 
-/// Writes the replacement of a run as `write_run` does that decide whether it is a symbol.
+/// Writes the replacement of a run that was read: the printed symbol, or the run itself if it is not a
+/// symbol. Either is one call of the writer if it has up to 2,048 bytes. Fails if the writer fails.
+pub(super) fn write_read_at_once<W: Write>(
+    symbol: &Demangle<'_>,
+    run: &str,
+    output: &mut W,
+    format: Format,
+) -> io::Result<()> {
+    if symbol.has_style() {
+        write_symbol_at_once(symbol, output, format)
+    } else {
+        write_text(run, output)
+    }
+}
+
+/// Writes the replacement of a run, as `write_read_at_once` does. Fails if the writer fails.
+pub(super) fn write_run_at_once<W: Write>(
+    run: &str,
+    output: &mut W,
+    format: Format,
+) -> io::Result<()> {
+    write_read_at_once(&Demangle::read_run(run), run, output, format)
+}
+
+/// Writes the replacement of a run: the printed symbol, with a write for each piece, or the run itself
+/// if it is not a symbol. Fails if the writer fails.
 pub(super) fn write_run<W: Write>(run: &str, output: &mut W, format: Format) -> io::Result<()> {
     let symbol = Demangle::read_run(run);
     if symbol.has_style() {

@@ -3,9 +3,12 @@
 
 use crate::rustc_demangle::format::Format;
 use crate::rustc_demangle::stream::buffer_sink::BufferSink;
-use crate::rustc_demangle::stream::line_writer::write_run;
+use crate::rustc_demangle::stream::credit::{Credit, starts_as_v0};
+use crate::rustc_demangle::stream::line_writer::{
+    write_read_at_once, write_run, write_run_at_once,
+};
 use crate::rustc_demangle::value::Demangle;
-use crate::rustc_demangle::value::printing::{print_legacy_run, print_v0_run};
+use crate::rustc_demangle::value::printing::{Tried, print_legacy_run, print_v0_run};
 
 use crate::piece_buffer::PieceBuffer;
 use crate::support::alloc::Global;
@@ -23,6 +26,13 @@ const MAX_MISSES: u32 = 4096;
 
 /// The number of runs for which a memo stays off.
 const PAUSE: u32 = 32_768;
+
+/// The most bytes of a run that is printed before it is known to be a symbol. Of the symbols that are
+/// longer, many have so many references that they are validated in any case.
+const MOST_PRINTED: usize = 384;
+
+/// The same if arguments are folded. Then no reference in them is followed.
+const MOST_FOLDED: usize = 768;
 
 /// A counter that turns a memo off for a while if few symbols repeat.
 #[derive(Clone, Copy)]
@@ -59,10 +69,12 @@ impl Probe {
     }
 }
 
-/// The texts that are remembered, and the last one that was printed for them.
+/// The texts that are remembered, the last one that was printed for them, and whether runs are
+/// printed first.
 struct Store {
     texts: TextMemo,
     printed: PieceBuffer,
+    credit: Credit,
 }
 
 /// A memo of printed symbols, with which a filter does not parse a repeated symbol again.
@@ -83,23 +95,19 @@ fn print_to_buffer(symbol: &Demangle<'_>, held: &mut PieceBuffer, format: Format
     symbol.write_formatted(&mut sink, format).is_ok()
 }
 
-/// Returns whether a run, or a run with the `_` before it, starts as a v0 symbol.
+/// Prints a run into the buffer before it is known to be a symbol up to that. Returns what is known
+/// of it then. Unless it was printed, the buffer may have a part of it.
 #[cfg_attr(not(debug_assertions), inline(always))]
-fn starts_as_v0(run: &[u8]) -> bool {
-    (run.len() > 2) && ((run[1] == b'R') | ((run[1] == b'_') & (run[2] == b'R')))
-}
-
-/// Prints a symbol into the buffer before it is known whether the run is one. Returns `false` if
-/// that is still unknown, or if the buffer has no room for the text. Then the buffer may have a
-/// part of it.
-#[cfg_attr(not(debug_assertions), inline(always))]
-fn print_first(run: &str, held: &mut PieceBuffer, format: Format) -> bool {
+fn print_first<'a>(run: &'a str, held: &mut PieceBuffer, format: Format) -> Tried<'a> {
     held.clear();
     let mut sink = BufferSink::new(held);
     if starts_as_v0(run.as_bytes()) {
-        print_v0_run(run, &mut sink, format)
+        return print_v0_run(run, &mut sink, format);
+    }
+    if print_legacy_run(run, &mut sink, format) {
+        Tried::Printed
     } else {
-        print_legacy_run(run, &mut sink, format)
+        Tried::Unknown
     }
 }
 
@@ -128,25 +136,63 @@ fn is_looked_up(run: &[u8]) -> bool {
         | run[end - 1].is_ascii_digit()
 }
 
+impl Store {
+    /// Prints a run into the buffer if it is not too long and runs are printed first. Otherwise it
+    /// reads the run. Returns what the run was read as, or `None` if it was printed.
+    #[cfg_attr(not(debug_assertions), inline(always))]
+    fn print_or_read<'a>(&mut self, run: &'a str, format: Format) -> Option<Demangle<'a>> {
+        let most = if format.fold_arguments {
+            MOST_FOLDED
+        } else {
+            MOST_PRINTED
+        };
+        if run.len() > most || !self.credit.is_given() {
+            let symbol = Demangle::read_run(run);
+            if symbol.has_style() {
+                self.credit.gain();
+            }
+            return Some(symbol);
+        }
+        let symbol = match print_first(run, &mut self.printed, format) {
+            Tried::Printed => return None,
+            Tried::Read(symbol) => symbol,
+            Tried::Unknown => Demangle::read_run(run),
+        };
+        if !symbol.has_style() {
+            self.credit.lose(run);
+        }
+        Some(symbol)
+    }
+
+    /// Prints a run that was read, and remembers its text, or that it is too long.
+    fn print_read(
+        &mut self,
+        symbol: &Demangle<'_>,
+        run: &str,
+        hash: u64,
+        format: Format,
+    ) -> Printed {
+        if !symbol.has_style() {
+            let kept = run.as_bytes();
+            self.texts.insert(kept, kept, hash);
+            return Printed::NoSymbol;
+        }
+        self.printed.clear();
+        if !print_to_buffer(symbol, &mut self.printed, format) {
+            self.texts.note_too_long(hash);
+            return Printed::TooLong;
+        }
+        self.texts
+            .insert(run.as_bytes(), self.printed.as_slice(), hash);
+        Printed::Symbol
+    }
+}
+
 /// Prints a run, and remembers its text, or that it is too long.
 #[inline(never)]
 fn print_new(run: &str, hash: u64, format: Format, store: &mut Store) -> Printed {
-    if print_first(run, &mut store.printed, format) {
-        store
-            .texts
-            .insert(run.as_bytes(), store.printed.as_slice(), hash);
-        return Printed::Symbol;
-    }
-    let symbol = Demangle::read_run(run);
-    if !symbol.has_style() {
-        let kept = run.as_bytes();
-        store.texts.insert(kept, kept, hash);
-        return Printed::NoSymbol;
-    }
-    store.printed.clear();
-    if !print_to_buffer(&symbol, &mut store.printed, format) {
-        store.texts.note_too_long(hash);
-        return Printed::TooLong;
+    if let Some(symbol) = store.print_or_read(run, format) {
+        return store.print_read(&symbol, run, hash, format);
     }
     store
         .texts
@@ -169,6 +215,7 @@ impl SymbolMemo {
             store: Store {
                 texts: TextMemo::new(alloc),
                 printed: PieceBuffer::new(),
+                credit: Credit::new(),
             },
             probe: Probe {
                 misses: 0,
@@ -186,10 +233,10 @@ impl SymbolMemo {
     /// Writes the text of a run that is not remembered. Fails if the writer fails.
     #[cfg_attr(not(debug_assertions), inline(always))]
     fn write_once<W: Write>(&mut self, run: &str, output: &mut W) -> io::Result<()> {
-        if print_first(run, &mut self.store.printed, self.format) {
-            return output.write_all(self.store.printed.as_slice());
+        match self.store.print_or_read(run, self.format) {
+            Some(symbol) => write_read_at_once(&symbol, run, output, self.format),
+            None => output.write_all(self.store.printed.as_slice()),
         }
-        write_run(run, output, self.format)
     }
 
     /// Writes the text of a run that is not in the memo. The text is remembered if the run came
@@ -199,13 +246,13 @@ impl SymbolMemo {
         match self.store.texts.note(hash) {
             Noted::Again => {}
             Noted::New => return self.write_once(run, output),
-            Noted::TooLong => return write_run(run, output, self.format),
+            Noted::TooLong => return write_run_at_once(run, output, self.format),
         }
 
         match print_new(run, hash, self.format, &mut self.store) {
             Printed::Symbol => output.write_all(self.store.printed.as_slice()),
             Printed::NoSymbol => output.write_all(run.as_bytes()),
-            Printed::TooLong => write_run(run, output, self.format),
+            Printed::TooLong => write_run_at_once(run, output, self.format),
         }
     }
 

@@ -30,6 +30,7 @@ fn write_unchanged<W: Write>(bytes: &[u8], output: &mut W) -> Result<(), StreamF
 }
 
 /// Writes the replacement of a candidate. Fails if the writer fails.
+#[cfg_attr(not(debug_assertions), inline(always))]
 fn write_candidate<W: Write>(
     candidate: &[u8],
     before: ByteBefore,

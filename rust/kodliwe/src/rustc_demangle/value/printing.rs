@@ -4,7 +4,12 @@
 use crate::demangle_sink::{SinkRefused, SizeLimitedFmtAdapter, TextSink, put_piece};
 use crate::rustc_demangle::format::Format;
 use crate::rustc_demangle::strip::without_thin_lto;
-use crate::rustc_demangle::value::{Demangle, DemangleStyle, MAX_SIZE, is_allowed};
+#[cfg(feature = "stream")]
+use crate::rustc_demangle::value::is_allowed;
+use crate::rustc_demangle::value::{Demangle, DemangleStyle, MAX_SIZE};
+
+#[cfg(feature = "stream")]
+use crate::demangle_v0::Printed;
 
 /// Prints a symbol without its suffix into a sink, cut at the limit. Fails if the sink fails.
 fn write_cut<S: TextSink>(
@@ -117,35 +122,79 @@ impl Demangle<'_> {
 /// What the path of a run that is printed at once may have in bytes for each byte of the run, and
 /// beyond that. Few paths have more. A short run may bring any number of lifetimes into scope, or
 /// print the target of a reference again and again.
+#[cfg(feature = "stream")]
 const TIMES_RUN: usize = 4;
 
+#[cfg(feature = "stream")]
 const MORE_TEXT: usize = 64;
 
+/// The most bytes of the path of any run that is printed at once.
+#[cfg(feature = "stream")]
+const MOST_TEXT: usize = 1600;
+
 /// Returns the most bytes of the path of a run that is printed at once.
+#[cfg(feature = "stream")]
 #[cfg_attr(not(debug_assertions), inline(always))]
 fn text_limit(run: &str, format: Format) -> usize {
     let most = run
         .len()
         .saturating_mul(TIMES_RUN)
         .saturating_add(MORE_TEXT);
-    format.limit.min(most)
+    format.limit.min(most.min(MOST_TEXT))
 }
 
-/// Prints a run that is a v0 symbol, in one pass over its first path. A run is ASCII.
+/// What is known of a run that was printed before it was known to be a symbol.
+#[cfg(feature = "stream")]
+#[derive(Clone, Copy)]
+pub(crate) enum Tried<'a> {
+    /// The run is a symbol, and its text was printed.
+    Printed,
+    /// The run was read as this text, symbol or not. A part of a path may be printed.
+    Read(Demangle<'a>),
+    /// Nothing is known, and a part of a path may be printed. `Demangle::read_run` says what the run
+    /// is.
+    Unknown,
+}
+
+/// Prints a v0 run before it is known to be a symbol, as `demangle_v0::demangle_printed` does up to
+/// the end of its validation. A run is ASCII. Returns what is known of it then.
 ///
-/// Returns `false` if the run is not a v0 symbol, as `demangle_v0::demangle_printed` does, or if the
-/// path is much longer than the run. Then an unknown part of the symbol may be in the sink, and
-/// `Demangle::read_run` says what the run is.
+/// Nothing is known of a path that is much longer than the run.
+#[cfg(feature = "stream")]
 #[inline(never)]
-pub(crate) fn print_v0_run<S: TextSink>(run: &str, out: &mut S, format: Format) -> bool {
+pub(crate) fn print_v0_run<'a, S: TextSink>(
+    run: &'a str,
+    out: &mut S,
+    format: Format,
+) -> Tried<'a> {
     let text = without_thin_lto(run);
     let limit = text_limit(run, format);
     let mut limited = SizeLimitedFmtAdapter::new(out, limit);
-    let read = crate::demangle_v0::demangle_printed(text, &mut limited, format.form());
-    let Some((_, suffix)) = read else {
-        return false;
-    };
-    is_allowed(suffix) && put_piece(suffix, out).is_ok()
+    match crate::demangle_v0::demangle_printed(text, &mut limited, format.form()) {
+        Printed::Symbol(symbol, suffix) => {
+            let allowed = is_allowed(suffix);
+            if allowed && put_piece(suffix, out).is_ok() {
+                return Tried::Printed;
+            }
+            let style = DemangleStyle::V0(symbol);
+            Tried::Read(Demangle::with_style(text, style, suffix, allowed))
+        }
+        Printed::Part(symbol, suffix) => {
+            let allowed = is_allowed(suffix);
+            let style = DemangleStyle::V0(symbol);
+            Tried::Read(Demangle::with_style(text, style, suffix, allowed))
+        }
+        // A text with the prefix of v0 has not that of the legacy scheme, so this ends at once.
+        Printed::NoSymbol => match crate::demangle_legacy::demangle(text, true) {
+            Ok((symbol, suffix)) => {
+                let allowed = is_allowed(suffix);
+                let style = DemangleStyle::Legacy(symbol);
+                Tried::Read(Demangle::with_style(text, style, suffix, allowed))
+            }
+            Err(()) => Tried::Read(Demangle::without_style(text)),
+        },
+        Printed::Unknown => Tried::Unknown,
+    }
 }
 
 /// Prints a run that is a legacy symbol, in one pass. A run is ASCII.
