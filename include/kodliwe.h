@@ -22,7 +22,7 @@
  *   - A size is at most PTRDIFF_MAX, as for every object in C.
  *
  *   - The stack has room. 8 KiB suffice for every symbol that a compiler made: of 1,400 real ones, none made a call touch
- *     more than 6.1 KB. For a v0 symbol made to be deep, a call touches 13.8 KB. Such a symbol can be short: _RNvB_1a has
+ *     more than 5.4 KB. For a v0 symbol made to be deep, a call touches 13.8 KB. Such a symbol can be short: _RNvB_1a has
  *     8 bytes. For one that leaves over 512 productions open at once, a call touches up to 81 KB. If symbols come from
  *     strangers, provide 96 KiB. The same holds for a handler with its own stack (sigaltstack; examples/backtrace.c).
  *
