@@ -1,13 +1,13 @@
 #!/usr/bin/env python3
 """Counts what texts that are made to be costly cost, call by call, and compares it with the published crate.
 
-usage: hostile.py [--rust FOLDER] [--programs NAMES] [--archive FILE] [--seed N] [--minutes M] [STEP..]
+usage: hostile.py [--rust FOLDER] [--programs NAMES] [--archives NAMES] [--seed N] [--minutes M] [STEP..]
 
 It counts instructions by valgrind, so a busy machine does not matter. The texts are those of tests/hostile_texts.py: families that grow
 with a number, symbols whose cost only a limit of work could bound, and symbols by the grammar. The calls are these:
 
   rust     try_demangle, Display, demangle_text, demangle_slice and BytesFilter, plain and folded, of the Rust crate
-  c        the six calls of the archive that read a symbol or a text
+  c        the six calls of the archive that read a symbol or a text, as `make` builds it (proved) and as `make KIT=none` does (tested)
   program  kodliwe, plain and with --fold, over its standard input, as `make` builds it (proved) and as cargo does
   page     the module of the page, in node. There is no count of its instructions, so this is processor time, of a text and its double
   memory   VmHWM of each kodliwe over all of the texts: at most 8 MB, and twice the longest candidate of a symbol
@@ -22,16 +22,17 @@ The published crate has no streams in Debian's release. So its figure is try_dem
 A text of UNBOUNDED has no such bounds. It may take a stated multiple of what the published crate takes for the same symbol.
 
 A run that is printed in vain fails if it takes over ALONE, BETWEEN or ALIKE times what validating it first takes. That is the cost of
-demangle_text, folded or not as the call, and for a filter or a C call also what this call takes beyond demangle_text for a text with runs
-of the same lengths that are no symbols by their fourth byte. BytesFilter remembers equal runs, so it also reads runs that end with
-different numbers. After a run in vain it prints the next one only if enough symbols came between, so it also reads texts with as many
-cheap symbols between.
+demangle_text, folded or not as the call, and for a C call that of kodliwe_path_len of the same archive. For a filter or a C call it is
+also what this call takes beyond the other one for a text with runs of the same lengths that are no symbols by their fourth byte.
+BytesFilter remembers equal runs, so it also reads runs that end with different numbers. After a run in vain it prints the next one only
+if enough symbols came between, so it also reads texts with as many cheap symbols between.
 
-These runs are those of hostile_texts.VAIN, real symbols that are cut off, and what a search finds (tests/hostile_search.py). Its seed and
-the number of its generations are fixed, so it finds the same each time. --seed and --minutes make another one, of 5 minutes by default.
+These runs are those of hostile_texts.VAIN, real symbols that are cut off, and what a search finds (tests/hostile_search.py). A run that
+is a symbol for the published crate is left out, such as a real symbol that is cut off within its suffix. The seed of the search and the
+number of its generations are fixed, so it finds the same each time. --seed and --minutes make another one, of 5 minutes by default.
 
---rust and --archive name others than those of this checkout. --programs, or PROGRAMS in the environment, names some builds of the
-program, or other files: --programs proved,cargo=PATH. `make` builds the proved program and the archive.
+--rust names another crate than that of this checkout. --programs, or PROGRAMS in the environment, names some builds of the program,
+or other files: --programs proved,cargo=PATH. --archives names those of the archive in the same way. `make` builds the proved ones.
 The last line is 'N passed, N failed'. A missing tool is a failure.
 """
 import argparse
@@ -51,7 +52,7 @@ from concurrent import futures
 import hostile_search
 import hostile_texts
 import rust_common
-from common import ARCHIVE, INCLUDE, ROOT, RUST, Tally, built, instructions, run, tool
+from common import INCLUDE, ROOT, RUST, Library, Tally, built, instructions, run, tool
 
 DEBIAN = "/usr/share/cargo/registry"
 # The most instructions, in those of the published crate, or for each byte of the input and the output.
@@ -73,8 +74,8 @@ C_CALLS = [
     "kodliwe_demangle_text",
     "kodliwe_demangle_text_folded",
 ]
-# The calls that read runs which are no symbols. BytesFilter prints these first.
-VAIN_CALLS = ["demangle_slice", "BytesFilter", "BytesFilter folded", "kodliwe_demangle_text"]
+# The calls that read runs which are no symbols, by the Rust crate and by the archive. BytesFilter prints these first.
+VAIN_CALLS, VAIN_C_CALL = ["demangle_slice", "BytesFilter", "BytesFilter folded"], "kodliwe_demangle_text"
 # The most that a byte of a text of four times the size costs the page, in processor time.
 PAGE_GROWTH = 2.5
 # The most memory of the program, in kilobytes, without a run, and the bytes of the longest run.
@@ -87,13 +88,10 @@ ALONE, BETWEEN, ALIKE = 3, 1.5, 1.3
 MANY = 500
 # The bytes of a cheap run for each byte of the run before it, and how many bytes of that run cost BytesFilter one symbol.
 CHEAP, BYTES_PER_SYMBOL = 8, 4
-# The searches: the most bytes of a run, the generations, and the calls that read the dearest runs too. BytesFilter prints no longer runs
-# first, or than 768 if it folds arguments. The other calls validate each run first, so that a search over them shows if one does not.
-SEARCHES = {
-    "demangle_slice": (384, 20, ["kodliwe_demangle_text"]),
-    "BytesFilter": (400, 60, ["BytesFilter folded"]),
-    "BytesFilter folded": (800, 30, []),
-}
+# The searches: the most bytes of a run, the generations, and whether symbols cost nothing and the archives read the dearest runs too.
+# BytesFilter prints no longer runs first, or than 768 if it folds arguments. The other calls validate each run first, so that a search over
+# them shows if one does not.
+SEARCHES = {"demangle_slice": (384, 20, True), "BytesFilter": (400, 60, False), "BytesFilter folded": (800, 30, False)}
 SEED = 1
 # A v0 run, and the number at the end of a run.
 RUN, NUMBER = re.compile(rb"_R[0-9A-Za-z_.$]*"), re.compile(rb"[0-9]{0,6}$")
@@ -200,17 +198,28 @@ def rust_call(call):
     return judged(call, measured(rust_driver(), call), theirs(call))
 
 
+def archives():
+    """Returns the builds of the archive that are named, and their files, which are none for those of this checkout."""
+    for name in GIVEN.archives.split(","):
+        name, _, path = name.partition("=")
+        yield name, os.path.abspath(path) if path else None
+
+
 @functools.lru_cache(maxsize=None)
-def c_driver():
-    """Builds the driver over the archive, and returns its path."""
-    program = os.path.join(rust_common.OUT, "hostile-c")
+def c_driver(name, path):
+    """Builds the driver over an archive, and returns its path."""
+    if path is None:
+        library = Library(name)
+        library.made()
+        path = library.archive
+    program = os.path.join(rust_common.OUT, "hostile-c-" + name)
     source = os.path.join(ROOT, "tests", "c_library", "hostile.c")
-    run([tool("cc", "gcc"), "-O2", "-Wall", "-I", INCLUDE, source, built(GIVEN.archive), "-o", program])
+    run([tool("cc", "gcc"), "-O2", "-Wall", "-I", INCLUDE, source, built(path), "-o", program])
     return program
 
 
-def c_call(call):
-    return judged(call, measured(c_driver(), call), theirs(call))
+def c_call(call, *archive):
+    return judged(call, measured(c_driver(*archive), call), theirs(call))
 
 
 def program_call(program, *words):
@@ -327,22 +336,36 @@ def blank(text):
     return RUN.sub(lambda run: blank_run(run[0]), text)
 
 
-class Vain:
-    """Measures a call in what validating first costs."""
+def no_symbols(runs):
+    """Returns the runs that are no symbols, as the published crate says."""
+    counts = measured(rust_driver(), "crate try", [symbol.encode("ascii") for symbol in runs]) if runs else []
+    return [symbol for symbol, (_, symbols) in zip(runs, counts) if symbols == 0]
 
-    def __init__(self, call):
-        self.call, self.beyond = call, {}
-        self.first = "demangle_text folded" if call.endswith("folded") else "demangle_text"
-        self.program = c_driver() if call in C_CALLS else rust_driver()
+
+@functools.lru_cache(maxsize=None)
+def vain_runs():
+    """Returns the families of runs that are printed in vain."""
+    families = {name: no_symbols(runs) for name, runs in hostile_texts.vain_families().items()}
+    assert all(families.values()), "symbols: %s" % ", ".join(name for name, runs in families.items() if not runs)
+    return families
+
+
+class Vain:
+    """Measures a call, of the Rust crate or of an archive, in what validating first costs."""
+
+    def __init__(self, call, *archive):
+        self.call, self.beyond, self.program = call, {}, c_driver(*archive) if archive else rust_driver()
+        # The call that only validates these runs.
+        self.first = "kodliwe_path_len" if archive else "demangle_text" + " folded" * call.endswith(" folded")
 
     def more(self, texts):
-        """Returns what the call takes for these texts beyond demangle_text, which is measured once for each blank text."""
+        """Returns what the call takes for these texts beyond the first one, which is measured once for each blank text."""
         if self.call == "demangle_slice":
             return [0] * len(texts)
         blanks = [blank(text) for text in texts]
         new = list(dict.fromkeys(text for text in blanks if text not in self.beyond))
         if new:
-            ours, first = (measured(*call, new) for call in ((self.program, self.call), (rust_driver(), self.first)))
+            ours, first = (measured(self.program, call, new) for call in (self.call, self.first))
             self.beyond.update((text, count - valid) for text, (count, _), (valid, _) in zip(new, ours, first))
         return [self.beyond[text] for text in blanks]
 
@@ -351,8 +374,7 @@ class Vain:
         if not texts:
             return []
         texts = [text.encode("ascii") for text in texts]
-        first = measured(rust_driver(), self.first, texts)
-        ours = measured(self.program, self.call, texts)
+        ours, first = (measured(self.program, call, texts) for call in (self.call, self.first))
         return [count / (valid + more) for (count, _), (valid, _), more in zip(ours, first, self.more(texts))]
 
     def costs(self, families):
@@ -374,8 +396,8 @@ def too_dear(costs):
     return "".join("\n  %s: %s" % (name, "; ".join(texts)) for name, texts in wrong.items())
 
 
-def vain_families(call):
-    costs, most_of = Vain(call).costs(hostile_texts.vain_families()), {}
+def vain_families(call, *archive):
+    costs, most_of = Vain(call, *archive).costs(vain_runs()), {}
     for _, kind, cost, _ in costs:
         most_of[kind] = max(cost, most_of.get(kind, 0))
     told = "at most " + ", ".join("%s %.2f" % row for row in most_of.items())
@@ -383,10 +405,26 @@ def vain_families(call):
     return told
 
 
-def vain_search(call, most, generations, others):
+def also_read(call, with_archives):
+    """Returns the calls that read the dearest runs, by their names: this one, folded too if it is that of a filter, and perhaps C's."""
+    calls = [(call, Vain(call))]
+    if call == "BytesFilter":
+        calls.append((call + " folded", Vain(call + " folded")))
+    return calls + [("%s, %s" % (VAIN_C_CALL, archive[0]), Vain(VAIN_C_CALL, *archive)) for archive in archives() if with_archives]
+
+
+def vain_search(call, most, generations, with_archives):
     """Searches for runs that cost much alone. Fails if the dearest ones of some climbs cost too much, or do so by other calls."""
-    known = [symbol for symbols in hostile_texts.vain_families().values() for symbol in symbols[:3]]
-    search = hostile_search.Search(SEED if GIVEN.seed is None else GIVEN.seed, most, Vain(call).ratios, known)
+    known, vain = [symbol for symbols in vain_runs().values() for symbol in symbols[:3]], Vain(call)
+
+    def scores(runs):
+        costs = vain.ratios(runs)
+        if not with_archives:
+            return costs
+        in_vain = set(no_symbols(runs))
+        return [cost if symbol in in_vain else 0 for symbol, cost in zip(runs, costs)]
+
+    search = hostile_search.Search(SEED if GIVEN.seed is None else GIVEN.seed, most, scores, known)
     if GIVEN.seed is None and GIVEN.minutes is None:
         for _ in range(generations):
             search.generation()
@@ -396,10 +434,10 @@ def vain_search(call, most, generations, others):
             search.generation()
     found = search.dearest()[:DEAREST]
     told, wrong = "%d runs in %d climbs, the dearest is %s" % (len(search.tried), search.climbs, found[0]), False
-    for measured_call in (call, *others):
-        costs = Vain(measured_call).costs({symbol: [symbol] for symbol in found})
+    for name, other in also_read(call, with_archives):
+        costs = other.costs({symbol: [symbol] for symbol in found})
         numbers = ", ".join("%s %.2f" % (kind, cost) for symbol, kind, cost, _ in costs if symbol == found[0])
-        told += "\n %s: %s%s" % (measured_call, numbers, too_dear(costs))
+        told += "\n %s: %s%s" % (name, numbers, too_dear(costs))
         wrong = wrong or bool(too_dear(costs))
     assert not wrong, told
     return told
@@ -409,25 +447,27 @@ def main():
     words = argparse.ArgumentParser(description=__doc__, formatter_class=argparse.RawDescriptionHelpFormatter)
     words.add_argument("--rust", metavar="FOLDER", default=RUST, help="the workspace of the Rust crate")
     rust_common.add_programs(words)
-    words.add_argument("--archive", metavar="FILE", default=ARCHIVE, help="the static library for C")
+    words.add_argument("--archives", metavar="NAMES", default=",".join(Library.KINDS), help="the builds of the archive")
     words.add_argument("--seed", metavar="N", type=int, help="the seed of another search for runs that are printed in vain")
     words.add_argument("--minutes", metavar="M", type=float, help="how long it searches for each call")
     words.add_argument("only", nargs="*", metavar="STEP", help="run these alone")
     words.parse_args(namespace=GIVEN)
-    for name in ("rust", "archive"):
-        setattr(GIVEN, name, os.path.abspath(getattr(GIVEN, name)))
+    GIVEN.rust = os.path.abspath(GIVEN.rust)
     os.makedirs(rust_common.OUT, exist_ok=True)
     tally = Tally(GIVEN.only)
     for call in CALLS:
         tally.step("rust " + call, rust_call, call)
-    for call in C_CALLS:
-        tally.step("c " + call, c_call, call)
+    for archive in archives():
+        for call in C_CALLS:
+            tally.step("c %s, %s" % (call, archive[0]), c_call, call, *archive)
     for name, program in rust_common.chosen(GIVEN.programs):
         tally.step("program %s" % name, program_call, program)
         tally.step("program %s, folded" % name, program_call, program, "--fold")
         tally.step("memory %s" % name, memory, program)
     for call in VAIN_CALLS:
         tally.step("printed in vain, %s" % call, vain_families, call)
+    for archive in archives():
+        tally.step("printed in vain, %s, %s" % (VAIN_C_CALL, archive[0]), vain_families, VAIN_C_CALL, *archive)
     for call, setting in SEARCHES.items():
         tally.step("printed in vain, search for %s" % call, vain_search, call, *setting)
     tally.step("page", page)

@@ -12,6 +12,8 @@ from texts import DIGITS
 RUNS, KEPT, PATIENCE = 300, 30, 8
 # What a climb has to gain, as a part of the best.
 GAIN = 0.003
+# The fewest bytes of a run. A shorter one is cheap, and there is no other run of its length to compare it with.
+LEAST = 6
 # A reference, a disambiguator, a constant, and the length of a name.
 REFERENCE, DISAMBIGUATOR, CONSTANT = re.compile(r"B([0-9a-zA-Z]*)_"), re.compile(r"[sLG][0-9a-zA-Z]*_"), re.compile(r"R?[a-z]n?[0-9a-f]*_")
 NAME = re.compile(r"u?([1-9][0-9]{0,3})_?")
@@ -180,7 +182,7 @@ class Search:
             self.first, self.pool, self.top, self.idle = self.fresh(), {}, 0, 0
             self.climbs += 1
         runs = self.first if is_new else self.children()
-        runs = list(dict.fromkeys(run[: self.most] for run in runs if (is_new or run not in self.tried) and len(run) > 2))
+        runs = list(dict.fromkeys(run[: self.most] for run in runs if (is_new or run not in self.tried) and len(run) >= LEAST))
         self.tried.update(runs)
         self.pool.update(zip(runs, self.scores(runs)))
         # Of runs that cost the same, the shortest one remains.

@@ -184,7 +184,7 @@ def real_symbols():
 
 
 def vain_families():
-    """Returns lists of runs that are no symbols, by their names. A list of several runs has real symbols that are cut off."""
+    """Returns lists of runs, by their names: those of VAIN, and real symbols that are cut off, some of which still are symbols."""
     symbols = real_symbols()
     families = {name: [run] for name, run in VAIN.items()}
     for size in (64, 128, 256):

@@ -51,6 +51,8 @@ It prints a line for each of these with each build, and at last how many passed:
                 bytes before it change
   preceded      the bytes before a symbol determine what its path takes the place of, also where the input is cut
   underscored   lines of nm print the same with an underscore before each symbol, as macOS has them
+  kinds         lines of nm, objdump, three linkers' maps, perf, backtraces, sanitizers and JSON: each real symbol of the corpus is
+                replaced by its stored path
   same file     an input that is the file of standard output is an error before anything is read; with --output it is replaced
   terminal      a terminal as standard input is noted if there are no arguments
   marked        an input that begins as gzip, zstd, xz, lz4, bzip2 or UTF-16 is noted once, and copied with the same status; no other
@@ -945,6 +947,43 @@ def underscored():
     return "%d lines" % len(names)
 
 
+# A part of a text of each kind, with a symbol as the tool writes it.
+KINDS = {
+    "nm": "{a:016x} t {s}\n",
+    "objdump": "{a:016x} <{s}>:\n  {a:x}:\te8 16 00 00 00       \tcall   {a:x} <{s}+0x1b>\n",
+    "map of GNU ld": " .text.{s}\n                0x{a:016x}      0x116 target/lib.o\n                0x{a:016x}                {s}\n",
+    "map of lld": "  {a:x}   {a:x}       5b    16         target/lib.o:(.text.{s})\n  {a:x}   {a:x}        0     1                 {s}\n",
+    "map of macOS": "0x{a:08X}\t0x00000054\t[{n:3}] _{s}\n",
+    "perf script": "\t{a:16x} {s}+0x1b (/usr/bin/program)\n",
+    "folded stacks": "program;_start;{s};{s} 17\n",
+    "backtrace": "  {n:>4}: 0x{a:012x} - {s}\n             at /src/lib.rs:{n}:17\n",
+    "gdb": "#{n}  0x{a:016x} in {s} () at /src/lib.rs:{n}\n",
+    "sanitizer": "    #{n} 0x{a:012x} in {s} /src/lib.rs:{n}:17\n",
+    "JSON": '{{"name":"{s}","line":{n},"frames":["_{s}","{s}"]}}\n',
+}
+
+
+def kinds():
+    stored = {}
+    for symbol, limit, answer in texts.stored():
+        # Longer paths are stored as digests, and a symbol with another byte is more than one run, or none.
+        if answer and limit == texts.NO_LIMIT and re.fullmatch(rb"_(ZN|R)[0-9A-Za-z_.$]+", symbol) and not answer[0].startswith(b"#len="):
+            stored[symbol] = [texts.unescaped(column) for column in answer[:2]]
+    real = [symbol for symbol in map(str.encode, texts.symbols("all")) if symbol in stored]
+    assert len(real) >= 300, "only %d symbols" % len(real)
+    for kind, form in KINDS.items():
+        for option, column in ((["--hash"], 0), ([], 1)):
+            lines, wanted = [], []
+            for n, symbol in enumerate(real):
+                line = form.format(n=n, a=0x55D0C0DE0000 + 64 * n, s="{s}").encode()
+                lines.append(line.replace(b"{s}", symbol))
+                wanted.append(line.replace(b"_{s}", b"{s}").replace(b"{s}", stored[symbol][column]))
+            found, said, status = run(*option, text=b"".join(lines))
+            assert (said, status) == ("", 0), "%s: %s" % (kind, said)
+            assert found == b"".join(wanted), "a path of a line of %s differs" % kind
+    return "%d symbols in each of %d kinds" % (len(real), len(KINDS))
+
+
 def run_onto(name, *words, text=None):
     """Runs over a file that standard output appends to. Returns its lines on standard error, its status, and the file."""
     with open(name, "ab") as output, open(text or os.devnull, "rb") as stdin:
@@ -1218,6 +1257,7 @@ CHECKS = [
     filter_,
     preceded,
     underscored,
+    kinds,
     same_file,
     terminal,
     marked,
