@@ -62,10 +62,12 @@ def check_program(library):
     rows = [[], ["-"], ["--hash"], ["--hash", symbol], [symbol, "", "at %s." % symbol], ["-i", CORPUS], ["--input=" + CORPUS, "--hash"]]
     rows += [["-i" + CORPUS, symbol, "-"], ["-l", "5", symbol * 2, "-i", CORPUS], ["-l5", "_ZN3foo3barE.cold"], ["--", "--hash", symbol]]
     rows += [[symbol, "-i", "/none", symbol], ["-i", ROOT], ["-x"], ["-i"], ["--input"], ["-l", "1K", symbol], ["--hash=", symbol]]
+    rows += [["RNvC3foo3bar", "ZN3foo3barE", "__ZN3foo3barE"], ["_ZN3fooE.a@_ZN3barE", "x _ZN3fooE y", ""], ["-f", "RINvC3foo3barhE"]]
+    rows += [["-", symbol, "-", symbol]]
     env = environment(KODLIWE_LIB=library.shared)
     with open(CORPUS, "rb") as file:
         given = file.read()
-    for words in rows:
+    for words, given in [*((words, given) for words in rows), (["-", symbol], b"x _ZN1aE"), (["-i", "-", symbol, symbol], b"")]:
         of_both = [subprocess.run(it + words, input=given, stdout=-1, stderr=-1, env=env, timeout=120) for it in (module, [program])]
         ours, theirs = ((ran.returncode, ran.stdout, bool(ran.stderr)) for ran in of_both)
         assert ours == theirs, (words, ours, theirs)

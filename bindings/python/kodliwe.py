@@ -239,8 +239,8 @@ _HELP = """\
 Usage: python3 -m kodliwe [OPTIONS] [SYMBOL]...
 
 Copies text with each Rust symbol in it demangled (legacy _ZN..E and v0 _R..).
-Each SYMBOL is a line of its own. Without a SYMBOL and without an input,
-standard input is read.
+Each SYMBOL is a line of its own: a symbol with or without its underscores, or
+text. Without a SYMBOL and without an input, standard input is read.
 
 Options:
   -i, --input FILE    Read FILE; - is standard input. May be given several times
@@ -248,12 +248,12 @@ Options:
   -f, --fold          Print generic arguments as _ (Vec<_> for Vec<u8>)
   -l, --limit BYTES   Cut each path at BYTES (1000000 if not given)
   -h, --help          Print this help
-  -V, --version       Print the version
+  -V, --version       Print the version and how the library was built
 
-SYMBOLs and inputs are filtered in their order, each by itself. -- ends the
-options. The status is 0, also if the reader of the output closes it; 1 if an
-input can't be read or the output can't be written; 2 if an option is unknown,
-and then nothing is read. The program kodliwe is faster and can write a file.
+SYMBOLs and inputs are printed in their order. -- ends the options. The status
+is 0, also if the reader of the output closes it; 1 if an input can't be read
+or the output can't be written; 2 if an option is unknown, and then nothing is
+read. The program kodliwe is faster and can write a file.
 """
 
 
@@ -303,6 +303,14 @@ def _bytes(word: str, value: str) -> int:
     return int(value)
 
 
+def _about() -> str:
+    """Returns the version, and how the library was built if there is one."""
+    try:
+        return version() + "\n"
+    except OSError:
+        return "kodliwe %s\n" % __version__
+
+
 def _parsed(words: List[str]) -> _Words:
     """Parses the arguments. Fails at the first that is wrong."""
     found, rest = _Words([]), iter(words)
@@ -321,7 +329,7 @@ def _parsed(words: List[str]) -> _Words:
         elif name == "--limit":
             found = found._replace(limit=_bytes(word, _value(word, name, value, rest)))
         elif name in ("--help", "--version"):
-            return found._replace(text=_HELP if name == "--help" else "kodliwe %s\n" % __version__)
+            return found._replace(text=_HELP if name == "--help" else _about())
         else:
             raise _Fault("unknown option '%s'; try 'python3 -m kodliwe --help'" % word, 2)
     return found if found.inputs else found._replace(inputs=[(True, "-")])
@@ -358,6 +366,12 @@ def _print(text: bytes) -> None:
         raise _Fault("" if is_closed else "write failed: %s" % error.strerror, 0 if is_closed else 1) from error
 
 
+def _argument(given: bytes, words: _Words) -> bytes:
+    """Returns what an argument prints: its path if the whole of it is a symbol, or else its text with the symbols replaced."""
+    path = try_demangle(given, words.hash, words.limit, words.fold)
+    return demangle_text(given, words.hash, words.limit, words.fold) if path is None else path
+
+
 def _filter(words: _Words) -> None:
     """Prints the inputs with their symbols demangled."""
     if words.text:
@@ -367,9 +381,15 @@ def _filter(words: _Words) -> None:
         _load()
     except OSError as error:
         raise _Fault(str(error), 1) from error
+    is_within_line = False
     for is_file, name in words.inputs:
-        for text in _lines(name) if is_file else [os.fsencode(name) + b"\n"]:
+        if not is_file:
+            _print(b"\n" * is_within_line + _argument(os.fsencode(name), words) + b"\n")
+            is_within_line = False
+            continue
+        for text in _lines(name):
             _print(demangle_text(text, words.hash, words.limit, words.fold))
+            is_within_line = not text.endswith(b"\n") if text else is_within_line
 
 
 def _main(words: List[str]) -> int:

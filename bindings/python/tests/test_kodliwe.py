@@ -318,6 +318,15 @@ class Program(unittest.TestCase):
         self.assertEqual(self.ran(LEGACY, "main", "at _ZN3fooE"), (0, b"foo\nmain\nat foo\n", ""))
         self.assertEqual(self.ran("--", "-x", LEGACY), (0, b"-x\nfoo\n", ""))
 
+    def test_an_argument_is_a_symbol_as_a_whole(self):
+        words = ("RNvC3foo3bar", "ZN3foo3barE", "__ZN3foo3barE", "__RNvC3foo3bar", "_ZN3fooE.a@_ZN3barE")
+        self.assertEqual(self.ran(*words), (0, b"foo::bar\n" * 4 + b"foo.a@_ZN3barE\n", ""))
+        self.assertEqual(self.ran("-f", "RINvC3foo3barhE", "RNvC3foo3bar x"), (0, b"foo::bar::<_>\nRNvC3foo3bar x\n", ""))
+
+    def test_an_argument_begins_a_line(self):
+        self.assertEqual(self.ran("-", LEGACY, "-i", "-", given=b"_ZN1bE"), (0, b"b\nfoo\n", ""))
+        self.assertEqual(self.ran("-", LEGACY, given=b"x\n"), (0, b"x\nfoo\n", ""))
+
     def test_standard_input_is_filtered(self):
         given = b"\xff " + LEGACY.encode() + b"\nend"
         for words in ((), ("-",), ("-i", "-"), ("--input=-",)):
@@ -336,7 +345,7 @@ class Program(unittest.TestCase):
             filtered = b"x foo\n" * 20_000 + b"a" * 200_000 + b" foo"
             for words in (("-i", name), ("-i" + name,), ("--input", name), ("--input=" + name,)):
                 # assertEqual would search for the difference of long texts for minutes
-                self.assertTrue(self.ran("1", *words, "2") == (0, b"1\n" + filtered + b"2\n", ""), words)
+                self.assertTrue(self.ran("1", *words, "2") == (0, b"1\n" + filtered + b"\n2\n", ""), words)
             self.assertEqual(self.ran("1", "-i", name + "x", "2"), (1, b"1\n", "kodliwe: %sx: No such file or directory\n" % name))
             self.assertEqual(self.ran("-i", folder), (1, b"", "kodliwe: %s: Is a directory\n" % folder))
 
@@ -351,7 +360,9 @@ class Program(unittest.TestCase):
             for option in (b"-i, --input FILE", b"--hash", b"-l, --limit BYTES", b"-h, --help", b"-V, --version", b"[SYMBOL]"):
                 self.assertIn(option, said)
             self.assertLessEqual(max(map(len, said.splitlines())), 80)
-        self.assertEqual(self.ran("-V", lib="/none.so"), (0, b"kodliwe %s\n" % kodliwe.__version__.encode(), ""))
+        for word in ("-V", "--version"):
+            self.assertEqual(self.ran(word, lib="/none.so"), (0, b"kodliwe %s\n" % kodliwe.__version__.encode(), ""))
+            self.assertEqual(self.ran(word), (0, kodliwe.version().encode() + b"\n", ""))
 
     def test_a_wrong_word_reads_nothing(self):
         told = "; try 'python3 -m kodliwe --help'\n"
