@@ -21,18 +21,22 @@ It takes what `make` built, and what `make KIT=none` builds, and prints a line f
   same        packing again gives the same bytes; with --twice, building from a fresh copy too
   untracked   nothing in the repository that git does not know
 
-  tree        installed and run in a fresh bookworm tree of debootstrap (with --tree)
+  tree        installed, run and removed in a fresh bookworm tree of debootstrap (with --tree)
   choice      without the kit and without KIT, `make` says in one line what both choices are
+  room        a clone of the last commit, an empty HOME and no kit: make, install, dist, cargo install, pip install and uninstall, with
+              their times; `make KIT=none` takes at most two minutes
 
 The last line is 'N passed, N failed'. A missing tool is a failure.
 """
-import argparse, glob, hashlib, os, re, shutil, subprocess, sys, tempfile
+import argparse, glob, hashlib, os, re, shutil, subprocess, sys, tempfile, time
 
 import common
 from common import ROOT, Lacking, Library, Tally, add_libraries, declared_calls, tool
 
 SYMBOL, PATH = "_ZN3foo17h05af221e174051e9E", "foo"
 CALLS = set(declared_calls())
+# The most seconds that `make KIT=none` takes in a new clone.
+MOST_SECONDS = 120
 LOADING = """
 #include <dlfcn.h>
 #include <stdio.h>
@@ -278,6 +282,10 @@ def fresh_tree(work, library):
     line = ("worker 1: called %s\n" % SYMBOL).encode()
     equal(run(["chroot", root, "kodliwe"], line), "worker 1: called foo\n")
     equal(run(["chroot", root, "demangle_filter", "--no-hash"], line), "worker 1: called foo\n")
+    installed = [name for name in run(["dpkg-deb", "--contents", package]).split() if name.startswith("./usr/")]
+    run(["chroot", root, "dpkg", "-r", "kodliwe"])
+    left = [name for name in installed if not name.endswith("/") and os.path.lexists(os.path.join(root, name))]
+    equal(left, [])
 
 
 def excluded():
@@ -285,13 +293,80 @@ def excluded():
     return any("/usr/share/man" in open(place).read() for place in glob.glob("/etc/dpkg/dpkg.cfg.d/*"))
 
 
+def without_kit():
+    """Returns the environment without `rt` on the PATH."""
+    env = {name: value for name, value in os.environ.items() if name not in ("MAKEFLAGS", "MFLAGS", "MAKELEVEL", "KIT", "KODLIWE_LIB")}
+    env["PATH"] = os.pathsep.join(place for place in env["PATH"].split(os.pathsep) if not os.path.exists(os.path.join(place, "rt")))
+    return env
+
+
+class Room:
+    """A clone of the last commit, with an empty HOME and without the kit."""
+
+    def __init__(self, work):
+        self.copy, self.times = os.path.join(work, "clone"), []
+        self.env = dict(without_kit(), HOME=os.path.join(work, "home"), CARGO_NET_OFFLINE="true")
+        # The cargo of rustup finds its compilers by HOME.
+        self.env.setdefault("RUSTUP_HOME", os.path.expanduser("~/.rustup"))
+        os.makedirs(self.env["HOME"])
+        run(["git", "clone", "--quiet", ROOT, self.copy])
+
+    def timed(self, command, folder=None):
+        """Runs a command line in the clone, or in a folder, and returns the seconds that it takes."""
+        began = time.monotonic()
+        run(["bash", "-c", command], cwd=folder or self.copy, env=self.env)
+        seconds = time.monotonic() - began
+        self.times.append("%s: %.0f s" % (command, seconds))
+        return seconds
+
+
+def without_the_kit():
+    """Returns the commands of README that need no kit: that of the program, of Rust, of C, of Python, and of the tests."""
+    with open(os.path.join(ROOT, "README.md"), encoding="utf-8") as file:
+        found = re.findall(r"^    ((?:cargo|make|pip) .*?) +# ", re.search(r"## Get it\n(.*?)\n\nThese", file.read(), re.S)[1], re.M)
+    equal(
+        [command.split()[:2] for command in found],
+        [["cargo", "install"], ["cargo", "add"], ["make", "KIT=none"], ["pip", "install"], ["cargo", "test"]],
+    )
+    return found
+
+
+def room(work):
+    """Runs the commands of README and the others of `make` in a clone with an empty HOME and without `rt` on the PATH."""
+    it, place, user = Room(work), os.path.join(work, "venv"), os.path.join(work, "user")
+    program, rust, c, python, tests = without_the_kit()
+    seconds = it.timed("make KIT=none")
+    it.timed(c)
+    tree = os.path.join(it.env["HOME"], ".local")
+    equal({name for name in files(tree) if not name.startswith("share/doc/")}, wanted())
+    it.timed("make KIT=none dist")
+    it.timed(program)
+    for folder in (tree, os.path.join(it.env["HOME"], ".cargo")):
+        equal(run([os.path.join(folder, "bin", "kodliwe"), SYMBOL]), PATH + "\n")
+    run(["cargo", "new", "--quiet", user], env=it.env)
+    it.timed(rust.replace("rust/", os.path.join(it.copy, "rust", "")), user)
+    with open(os.path.join(user, "src", "main.rs"), "w", encoding="utf-8") as file:
+        file.write('fn main() {\n    println!("{:#}", kodliwe::demangle("%s"));\n}\n' % SYMBOL)
+    equal(run(["cargo", "run", "--quiet"], cwd=user, env=it.env), PATH + "\n")
+    run([sys.executable, "-m", "venv", place], env=it.env)
+    it.env["PATH"] = os.path.join(place, "bin") + os.pathsep + it.env["PATH"]
+    it.timed(python.replace("pip install", "pip install --quiet --no-index"))
+    said = run(["python", "-c", "import kodliwe; print(kodliwe.version())"], env=it.env, cwd=work)
+    equal(said, "kodliwe 0.1.0, tested, not proved\n")
+    it.timed(tests)
+    it.timed("make KIT=none uninstall PREFIX=" + tree)
+    equal(files(tree), set())
+    told = ", ".join(it.times)
+    if seconds > MOST_SECONDS:
+        raise AssertionError("make KIT=none takes over %d s: %s" % (MOST_SECONDS, told))
+    return told
+
+
 def choice(work):
     """In a folder with nothing built, and without `rt` on the PATH."""
-    copy = os.path.join(work, "unbuilt")
+    copy, env = os.path.join(work, "unbuilt"), without_kit()
     run(["git", "clone", "--quiet", ROOT, copy])
     shutil.copy(os.path.join(ROOT, "Makefile"), copy)
-    env = {name: value for name, value in os.environ.items() if name not in ("MAKEFLAGS", "MFLAGS", "KIT")}
-    env["PATH"] = os.pathsep.join(place for place in env["PATH"].split(os.pathsep) if not os.path.exists(os.path.join(place, "rt")))
     for words in ([], ["install", "PREFIX=" + os.path.join(work, "nowhere")], ["dist"]):
         ran = subprocess.run(["make", *words], cwd=copy, env=env, stdout=subprocess.PIPE, stderr=subprocess.PIPE, encoding="utf-8")
         (line,) = [line for line in ran.stderr.splitlines() if not re.match(r"make\[\d+\]: ", line)]
@@ -365,7 +440,7 @@ def try_library(options, table, work, library):
 
     if options.twice:
         step("same, from a copy", twice)
-    if options.tree and library.kind == "proved":
+    if options.tree:
         step("tree", fresh_tree, work, library)
 
 
@@ -385,6 +460,7 @@ def main():
             try_library(options, table, work, Library(kind))
     with tempfile.TemporaryDirectory() as work:
         table.step("choice", choice, work)
+        table.step("room", room, work)
     table.step("untracked", lambda: equal(run(["git", "status", "--porcelain", "--ignored=no"], cwd=ROOT), before))
     return table.end()
 
