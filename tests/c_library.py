@@ -13,6 +13,7 @@ line for each of these:
               to be deep
   hostile     the checks of answers.c over costly symbols, under limits of 0 and of 4,096 bytes
   headers     both headers compile as C89 except for `bool`, as later C and as C++, without a warning
+  c89         a program of C89 with both headers, linked with the archive and with the shared library
   folded      the two calls that fold, over the stored symbols, against digests of the crate's paths with folded arguments
   texts       the stored symbols with bytes between them as one text, which need not be UTF-8
   exports     the shared library exports the calls of the headers alone, has its name, and needs the C library alone
@@ -206,6 +207,33 @@ def check_headers(folder):
     for compiler, *flags in ways:
         run([tool(compiler), *flags, "-pedantic", "-Wall", "-Wextra", "-Werror", "-I", INCLUDE, "-c", source, "-o", os.devnull])
     return "no warning by %s" % "; ".join(" ".join(way) for way in ways)
+
+
+OLD_C = """
+#include "kodliwe.h"
+#include "rustc_demangle.h"
+
+#include <stdio.h>
+
+int main(void) {
+    char out[64];
+    size_t size = kodliwe_demangle("_RNvC3foo3bar", 13, out, sizeof out, false);
+    printf("%lu %s\\n", (unsigned long)size, out);
+    printf("%d %s\\n", rustc_demangle("_ZN3foo3barE", out, sizeof out), out);
+    return 0;
+}
+"""
+
+
+def check_old_c(folder, library):
+    source, program = (os.path.join(folder, name) for name in ("old.c", "old"))
+    with open(source, "w") as file:
+        file.write(OLD_C)
+    for compiler in ("gcc", "clang"):
+        for end in ([library.archive], [library.shared, "-Wl,-rpath," + os.path.dirname(shared_library(folder, library))]):
+            run([tool(compiler), "-std=c89", "-Wall", "-Wextra", "-I", INCLUDE, source, *end, "-o", program])
+            same(run([program]), b"9 foo::bar\n1 foo::bar\n")
+    return "linked with the archive and the shared library, by gcc and clang"
 
 
 def check_by_name(folder, library, expected):
@@ -413,6 +441,7 @@ def try_library(tally, library, expected, texts):
         step("hostile", check_hostile, folder, library)
         step("folded", check_folded, folder, library, symbols)
         step("texts", check_texts, folder, library, expected)
+        step("c89", check_old_c, folder, library)
         step("by name", check_by_name, folder, library, expected)
         for sanitizer in ("address", "undefined", "thread"):
             step("sanitizers, " + sanitizer, check_sanitizer, folder, library, sanitizer, symbols, texts)

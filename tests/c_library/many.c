@@ -3,6 +3,7 @@
  *
  * Each text is copied to memory of exactly its size, and each result is written to memory of exactly its size. */
 #include "kodliwe.h"
+#include "rustc_demangle.h"
 
 #include <pthread.h>
 #include <stdint.h>
@@ -23,6 +24,43 @@ static size_t count;
 static void fail(const char *why, const text_t *text) {
     fprintf(stderr, "%s: %.*s\n", why, (int)(text->len < 80 ? text->len : 80), text->bytes);
     exit(1);
+}
+
+/* Calls of one kind: without a limit, or with LIMIT. */
+typedef size_t call_t(const text_t *text, char *out, size_t size, bool hash);
+
+static size_t plain(const text_t *text, char *out, size_t size, bool hash) {
+    return kodliwe_demangle(text->bytes, text->len, out, size, hash);
+}
+
+static size_t folded(const text_t *text, char *out, size_t size, bool hash) {
+    return kodliwe_demangle_folded(text->bytes, text->len, out, size, hash, LIMIT);
+}
+
+static size_t text_folded(const text_t *text, char *out, size_t size, bool hash) {
+    return kodliwe_demangle_text_folded(text->bytes, text->len, out, size, hash, LIMIT);
+}
+
+/* Fails if a call returns another size for memory of exactly its size, or writes no NUL at its end. */
+static void ask_exactly(call_t *call, const text_t *text, bool hash, const char *why) {
+    char room[ROOM];
+    size_t want = call(text, room, sizeof room, hash);
+    char *exact = (char *)malloc(want ? want : 1);
+    if (call(text, exact, want, hash) != want || (want != 0 && exact[want - 1] != 0)) fail(why, text);
+    if (want != 0 && memcmp(exact, room, want < sizeof room ? want : sizeof room - 1) != 0) fail(why, text);
+    free(exact);
+}
+
+/* Tries the call of upstream's header, which reads a C string. */
+static void ask_by_c_string(const text_t *text) {
+    char room[ROOM], path[ROOM], *mangled = (char *)malloc(text->len + 1);
+    memcpy(mangled, text->bytes, text->len);
+    mangled[text->len] = 0;
+    size_t len = strlen(mangled), want = kodliwe_demangle(mangled, len, room, sizeof room, false);
+    int is_written = rustc_demangle(mangled, path, sizeof path);
+    if ((is_written != 0) != (want != 0 && want <= sizeof path)) fail("rustc_demangle says otherwise", text);
+    if (is_written && strcmp(path, room) != 0) fail("rustc_demangle writes another path", text);
+    free(mangled);
 }
 
 static void ask(const text_t *text, bool hash) {
@@ -63,11 +101,24 @@ static void ask(const text_t *text, bool hash) {
     if (kodliwe_demangle_text(text->bytes, len, exact, want, hash, LIMIT) != want || exact[want - 1] != 0) fail("a text has another size", text);
     if (memcmp(exact, room, want < sizeof room ? want : sizeof room - 1) != 0) fail("another text", text);
     free(exact);
+    ask_exactly(plain, text, hash, "another path without a limit");
+    ask_exactly(folded, text, hash, "another folded path");
+    ask_exactly(text_folded, text, hash, "another folded text");
+    ask_by_c_string(text);
 }
 
 static void *ask_all(void *hash) {
     for (size_t i = 0; i < count; i++) ask(&texts[i], hash != NULL);
     return NULL;
+}
+
+/* Fails if the version has another size in memory of exactly its size. */
+static void ask_version(void) {
+    char none;
+    size_t size = kodliwe_version(&none, 0);
+    char *version = (char *)malloc(size);
+    if (kodliwe_version(version, size) != size || strlen(version) + 1 != size) exit(1);
+    free(version);
 }
 
 int main(void) {
@@ -85,6 +136,7 @@ int main(void) {
         if (texts[count].bytes == NULL || fread(&limit, sizeof limit, 1, stdin) != 1 || fread(texts[count].bytes, 1, len, stdin) != len) return 2;
         count++;
     }
+    ask_version();
     pthread_t threads[THREADS];
     for (size_t i = 0; i < THREADS; i++)
         if (pthread_create(&threads[i], NULL, ask_all, i ? texts : NULL) != 0) return 2;
