@@ -7,8 +7,9 @@ It counts instructions by valgrind, so a busy machine does not matter. The texts
 with a number, symbols whose cost only a limit of work could bound, and symbols by the grammar. The calls are these:
 
   rust     try_demangle, Display, demangle_text, demangle_slice and BytesFilter, plain and folded, of the Rust crate
-  c        the six calls of the archive that read a symbol or a text, as `make` builds it (proved) and as `make KIT=none` does (tested)
-  program  kodliwe, plain and with --fold, over its standard input, as `make` builds it (proved) and as cargo does
+  c        the calls of the archive that read a symbol or a text, as `make` builds it (proved) and as `make KIT=none` does (tested)
+  program  kodliwe, plain and with --fold, over its standard input, as `make` builds it (proved) and as cargo does; and with --limit 0
+           an argument whose path has 2^18 parts
   page     the module of the page, in node. There is no count of its instructions, so this is processor time, of a text and its double
   memory   VmHWM of each kodliwe over all of the texts: at most 8 MB, and twice the longest candidate of a symbol
   printed in vain
@@ -16,6 +17,7 @@ with a number, symbols whose cost only a limit of work could bound, and symbols 
 
 A text fails for a call
 - if it takes over TIMES the instructions of the published crate, and over RATE for each byte of its input and output;
+- if it takes over TIMES the instructions of the published crate, and is of a family whose lines are no symbols by their last bytes;
 - if it is of a family, and its double takes over GROWTH as much for each byte.
 The published crate has no streams in Debian's release. So its figure is try_demangle and `{}` for each candidate of the text.
 
@@ -64,12 +66,16 @@ SIZE = 16_384
 # The symbols by the grammar, and how many of them are one text.
 MADE, TOGETHER = 600, 20
 # The call of the published crate that a call is compared with.
-ASKED = {"try_demangle", "kodliwe_is_symbol", "kodliwe_path_len"}
+ASKED = {"try_demangle", "kodliwe_is_symbol", "kodliwe_symbol_len", "kodliwe_path_len"}
 CALLS = ["try_demangle", "Display", "demangle_text", "demangle_slice", "BytesFilter", "BytesFilter folded"]
 C_CALLS = [
     "kodliwe_is_symbol",
+    "kodliwe_symbol_len",
     "kodliwe_path_len",
     "kodliwe_demangle",
+    "kodliwe_demangle_limited",
+    "kodliwe_demangle_part",
+    "kodliwe_print_part",
     "kodliwe_demangle_folded",
     "kodliwe_demangle_text",
     "kodliwe_demangle_text_folded",
@@ -103,18 +109,19 @@ GIVEN = argparse.Namespace()
 
 
 class Text:
-    """A text with its bounds: the times of the published crate, and the index of the text of half its size."""
+    """A text with its bounds: the times of the published crate, the index of the text of half its size, and if no rate excuses it."""
 
-    def __init__(self, name, text, times=None, half=None):
-        self.name, self.bytes, self.times, self.half = name, text.encode("ascii"), times, half
+    def __init__(self, name, text, times=None, half=None, is_refused=False):
+        self.name, self.bytes, self.times, self.half, self.is_refused = name, text.encode("ascii"), times, half, is_refused
 
 
 def all_texts():
     """Returns the texts, in the order in which they are measured."""
     texts = []
     for name, family in hostile_texts.FAMILIES.items():
-        texts.append(Text(name, family(SIZE)))
-        texts.append(Text(name + ", double", family(2 * SIZE), half=len(texts) - 1))
+        is_refused = name in hostile_texts.REFUSED
+        texts.append(Text(name, family(SIZE), is_refused=is_refused))
+        texts.append(Text(name + ", double", family(2 * SIZE), half=len(texts) - 1, is_refused=is_refused))
     for name, (times, symbol) in hostile_texts.UNBOUNDED.items():
         texts.append(Text(name, symbol() + "\n", times=times))
     symbols = list(hostile_texts.made(MADE))
@@ -157,7 +164,7 @@ def judged(call, ours, crates):
         if text.times:
             wrong += [said + ", may be %g times" % text.times] * (times > text.times)
             continue
-        wrong += [said] * (times > TIMES and rates[at] > RATE)
+        wrong += [said] * (times > TIMES and (rates[at] > RATE or text.is_refused))
         most_rate, most_times = max(most_rate, rates[at]), max(most_times, times)
         if text.half is not None:
             growth = rates[at] / rates[text.half]
@@ -231,6 +238,15 @@ def program_call(program, *words):
         counts = pool.map(lambda text: instructions(command, text.bytes) - start, NAMED)
         ours = list(zip(counts, sizes))
     return judged(" ".join(["kodliwe", *words]), ours, theirs("kodliwe"))
+
+
+def argument(program):
+    """Measures the program for an argument whose path has 2^18 parts, under a limit of 0. It reads the argument, and prints nothing."""
+    symbol, command = hostile_texts.nested("MIC0" + "h" * 1000 + "EC0", 18), [built(program), "--limit", "0"]
+    ours = instructions([*command, symbol], b"") - instructions([*command, "_RC1a"], b"")
+    ((crate, _),) = measured(rust_driver(), "crate try", [symbol.encode("ascii")])
+    assert ours <= TIMES * crate, "%.2f times what the published crate takes to validate it" % (ours / crate)
+    return "%.2f times what the published crate takes to validate it" % (ours / crate)
 
 
 def page_times(texts):
@@ -463,6 +479,7 @@ def main():
     for name, program in rust_common.chosen(GIVEN.programs):
         tally.step("program %s" % name, program_call, program)
         tally.step("program %s, folded" % name, program_call, program, "--fold")
+        tally.step("program %s, an argument" % name, argument, program)
         tally.step("memory %s" % name, memory, program)
     for call in VAIN_CALLS:
         tally.step("printed in vain, %s" % call, vain_families, call)

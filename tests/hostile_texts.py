@@ -108,6 +108,9 @@ FAMILIES = {
     "a bad end": lambda n: lines(nested("MIC0" + "h" * 1000 + "EC0", 18, BAD), n // 1110),
 }
 
+# The families whose lines are no symbols by their last bytes only. The published crate validates such a line, and prints nothing of it.
+REFUSED = ["symbols that end too early", *list(FAMILIES)[list(FAMILIES).index("A") :]]
+
 # Only a limit of work could bound these: each is a symbol, and its references make a printer read a part again and again. The
 # requirement says what the library prints for them, so its calls take as long as that takes. Each is short here, since the cost of
 # most doubles with a few bytes. Their bound is the published crate's cost, which does the same work, times this.

@@ -18,6 +18,17 @@ static size_t path_len(const char *run, size_t len) { return kodliwe_path_len(ru
 
 static size_t demangle(const char *run, size_t len) { return kodliwe_demangle(run, len, out, sizeof out, true); }
 
+static size_t symbol_len(const char *run, size_t len) { return kodliwe_symbol_len(run, len); }
+
+static size_t limited(const char *run, size_t len) { return kodliwe_demangle_limited(run, len, out, sizeof out, true, LIMIT); }
+
+static size_t part(const char *run, size_t len) { return kodliwe_demangle_part(run, len, out, sizeof out, true, LIMIT, 0); }
+
+static size_t print_part(const char *run, size_t len) {
+    size_t path = kodliwe_path_len(run, len);
+    return path == 0 ? 0 : kodliwe_print_part(run, len, path, out, sizeof out, true, LIMIT, 0);
+}
+
 static size_t folded(const char *run, size_t len) { return kodliwe_demangle_folded(run, len, out, sizeof out, true, LIMIT); }
 
 static size_t whole(const char *all, size_t len) { return kodliwe_demangle_text(all, len, out, sizeof out, true, LIMIT); }
@@ -29,8 +40,16 @@ static const struct {
     size_t (*of)(const char *, size_t);
     bool of_texts;
 } CALLS[] = {
-    {"kodliwe_is_symbol", is_symbol, false},    {"kodliwe_path_len", path_len, false},      {"kodliwe_demangle", demangle, false},
-    {"kodliwe_demangle_folded", folded, false}, {"kodliwe_demangle_text", whole, true}, {"kodliwe_demangle_text_folded", whole_folded, true},
+    {"kodliwe_is_symbol", is_symbol, false},
+    {"kodliwe_symbol_len", symbol_len, false},
+    {"kodliwe_path_len", path_len, false},
+    {"kodliwe_demangle", demangle, false},
+    {"kodliwe_demangle_limited", limited, false},
+    {"kodliwe_demangle_part", part, false},
+    {"kodliwe_print_part", print_part, false},
+    {"kodliwe_demangle_folded", folded, false},
+    {"kodliwe_demangle_text", whole, true},
+    {"kodliwe_demangle_text_folded", whole_folded, true},
 };
 
 __attribute__((noinline)) size_t measured(size_t call, size_t len) {
