@@ -33,7 +33,7 @@ SYMBOLS = [
 
 
 def make_log(size):
-    """Returns lines with and without symbols: empty ones, some with CR, some not UTF-8, and one of 100,000 bytes."""
+    """Returns lines with and without symbols: empty ones, some with CR, some not UTF-8, some whose first bytes matter, and a long one."""
     chance, lines, written = random.Random(1), [b"x" * 50000 + SYMBOLS[0] + b"y" * 50000], 100000
     while written < size:
         lines.append(
@@ -43,6 +43,8 @@ def make_log(size):
                     b"\xff\xfe broken \x00",
                     b"%4d: 0x55d0c0de - " % len(lines) + chance.choice(SYMBOLS),
                     b"main;" + b";".join(chance.choices(SYMBOLS, k=chance.randrange(9))) + b" 12\r",
+                    b"tag v1.0_RC0 released",
+                    b"_" + chance.choice(SYMBOLS) + b" begins with the underscore of macOS",
                 ]
             )
         )

@@ -61,7 +61,8 @@ It prints a line for each of these with each build, and at last how many passed:
   identified    two files are the same only if their devices and inodes are, and not if the system gives no inode
   no symbol     an argument in which a run starts and no symbol is, and which names a file, is noted; after an error none is
   readme        the commands of README that call the program print what README says
-  sizes         so does its example of sizes, over a debug build of the crate, with one build
+  tools         each symbol in what nm, objdump and two linkers write of debug builds is replaced, with one build
+  sizes         the example of sizes prints what README says, over a debug build of the crate, with one build
 
 `make` builds the programs. The last line is 'N passed, N failed'. A missing tool is a failure.
 """
@@ -69,7 +70,7 @@ import argparse, bz2, fcntl, gzip, lzma, os, pty, re, resource, select, shutil, 
 import tempfile, termios, threading, time
 
 import texts
-from common import CORPUS, KODLIWE, ROOT, Tally, built, same, tool
+from common import CORPUS, KODLIWE, ROOT, Lacking, Tally, built, same, tool
 from rust_common import OUT, add_programs, chosen
 from texts import hostile
 
@@ -121,6 +122,9 @@ def folded():
     same(run("--hash", "-f", text=text), (wanted.replace(b"Bar<T>", b"Bar<T>::h05af221e174051e9"), "", 0))
     same(run(text=text), (wanted.replace(b"::<_>", b"::<u8>").replace(b"Bar<_>", b"Bar<i32>"), "", 0))
     same(run("-f", "-l", "11", "_RINvC3foo3barhE"), (b"foo::bar::<{size limit reached}\n", "", 0))
+    # In folded arguments no error is printed, so the parse goes on after them.
+    same(run("_RNvIC1aL0_E1b"), (b"a::<'{invalid syntax}>::?\n", "", 0))
+    same(run("-f", "_RNvIC1aL0_E1b"), (b"a::<_>::b\n", "", 0))
 
 
 def inputs():
@@ -141,6 +145,8 @@ def symbols():
     # The whole argument is the symbol, with a suffix that ThinLTO appended and with one that has another symbol in it.
     same(run("_ZN3fooE.llvm.9D1C9369@@16", "_ZN3fooE.a@_ZN3barE"), (b"foo\nfoo.a@_ZN3barE\n", "", 0))
     same(run(FOO[1:], "--hash"), (b"foo::h05af221e174051e9\n", "", 0))
+    # A path is not escaped, for HTML or for a terminal, to which U+009B begins a control sequence.
+    same(run("_RINvC3foo3barhE", "_RNvC3foou11a31mred_hga"), ("foo::bar::<u8>\nfoo::a\u009b31mred\n".encode(), "", 0))
     same(run("-f", "RINvC3foo3barhE"), (b"foo::bar::<_>\n", "", 0))
     same(run("-l", "0", "RNvC3foo3bar", "__ZN3fooE"), (b"{size limit reached}\n" * 2, "", 0))
     # What is no symbol as a whole is filtered: text around a symbol, and text that only begins as one.
@@ -311,7 +317,7 @@ def owner_of(name):
 
 def owners():
     if os.geteuid() != 0:
-        return "not tried, since only root has files of two users"
+        raise Lacking("no root, which alone has files of two users")
     os.mkdir("owners")
     os.chmod(".", 0o755)
     os.chown("owners", NOBODY, NOBODY)
@@ -1161,14 +1167,51 @@ def readme():
     same(read("link.map"), b"0x10 foo::bar\n")
 
 
+def built_debug(build, folder, *flags):
+    """Builds the crate's program as README does, with further flags of rustc, and returns it."""
+    env = dict(os.environ, CARGO_TARGET_DIR=folder, CARGO_NET_OFFLINE="true")
+    build = build.replace("RUSTFLAGS='", "RUSTFLAGS='%s " % " ".join(flags)) if flags else build
+    subprocess.run(["bash", "-c", build], cwd=ROOT, env=env, check=True, stdout=subprocess.PIPE, stderr=subprocess.STDOUT, timeout=900)
+    return os.path.join(folder, "debug", "kodliwe")
+
+
+def tool_texts(build):
+    """Yields what tools write of debug builds in both schemes: a name, the text, and the same without underscores of macOS."""
+    for scheme in ("v0", "legacy"):
+        for linker in ("lld", "bfd"):
+            folder = os.path.join(OUT, "tools", scheme, linker)
+            listed = os.path.join(folder, "link.map")
+            flags = ["-C", "link-arg=-fuse-ld=" + linker, "-C", "link-arg=-Wl,-Map=" + listed]
+            found = built_debug(build if scheme == "v0" else build.replace("-C symbol-mangling-version=v0", ""), folder, *flags)
+            yield "map of %s, %s" % (linker, scheme), read(listed), read(listed)
+        names = subprocess.check_output([tool("nm"), found])
+        yield "nm, " + scheme, names, names
+        yield "nm of macOS, " + scheme, re.sub(rb" (_(?:ZN|R).*)", rb" _\1", names), names
+        code = subprocess.check_output([tool("objdump"), "-d", "--no-show-raw-insn", found])
+        yield "objdump, " + scheme, code, code
+
+
+def tools():
+    """Each symbol in what nm, objdump and two linkers write is replaced as by demangle_filter, which ignores what is before it."""
+    with open(os.path.join(ROOT, "README.md"), encoding="utf-8") as file:
+        build = re.search(r"^    (RUSTFLAGS=.* cargo build .*)$", file.read(), re.M).group(1)
+    told = []
+    for name, text, plain in tool_texts(build):
+        wanted = subprocess.run([line_filter(), "--no-hash"], input=plain, stdout=subprocess.PIPE, check=True, timeout=120).stdout
+        count = sum(line != path for line, path in zip(plain.split(b"\n"), wanted.split(b"\n"), strict=True))
+        assert count >= 300, "%s: only %d lines have a symbol" % (name, count)
+        assert run(text=text) == (wanted, "", 0), "%s: a symbol is not replaced" % name
+        told.append("%s %s" % (name, count))
+    return "lines of " + ", ".join(told)
+
+
 def sizes():
     """README's largest function: the same name, and about the same size, which the compiler decides."""
     command, wanted = next((command, wanted) for command, wanted in examples().items() if command.startswith("nm "))
     with open(os.path.join(ROOT, "README.md"), encoding="utf-8") as file:
         build = re.search(r"^    (RUSTFLAGS=.* cargo build .*)$", file.read(), re.M).group(1)
     folder = os.path.join(OUT, "sizes")
-    env = dict(os.environ, CARGO_TARGET_DIR=folder, CARGO_NET_OFFLINE="true")
-    subprocess.run(["bash", "-c", build], cwd=ROOT, env=env, check=True, stdout=subprocess.PIPE, stderr=subprocess.STDOUT, timeout=900)
+    built_debug(build, folder)
     found = shell(command.replace("rust/target", folder)).split(None, 1)
     wanted = wanted.split(None, 1)
     same(found[1], wanted[1])
@@ -1297,6 +1340,7 @@ def main():
                 tally.step(name, in_a_folder, check)
             elif not words.only:
                 print("%s: not tried, since %s" % (name, LEFT_OUT[NOW[0], check]))
+    tally.step("tools", in_a_folder, tools)
     tally.step("sizes", in_a_folder, sizes)
     return tally.end()
 
