@@ -12,7 +12,7 @@ import subprocess
 import sys
 import tempfile
 
-from common import INCLUDE, ROOT, Tally, run, tool
+from common import INCLUDE, ROOT, Tally, run, same, tool
 
 SHELL = r"^#!.*\b(?:ba)?sh$"
 PYTHON = r"^#!.*\bpython3$"
@@ -125,6 +125,48 @@ def check_figures():
     return "older than their sources: %s" % ", ".join(older) if older else "all of today's sources"
 
 
+# How many new counts of looks each function makes. Work on a new count is in no bound.
+NEW_COUNTS = {
+    "demangle_v0/src/parser/machine.rt": {"at_path": 1, "in_larger_stack": 1},
+    "demangle_v0/src/printer.rt": {"print_validated": 1},
+    "rustc_demangle/src/lib.rt": {"demangle": 1},
+    "rustc_demangle/src/stream/memo.rt": {"write_new": 2, "write_run": 1},
+    "rustc_demangle/src/text.rt": {"put_run": 1},
+    "rustc_demangle/src/value.rt": {"read_run": 1},
+    "rustc_demangle/src/value/printing.rt": {"write_formatted": 1, "write_limited": 1, "write_folded": 1, "write_pieces_with_path_len": 1},
+}
+# Crates that only test.
+TESTING = ("demangle_corpus", "demangle_vectors", "test_doubles")
+
+
+def new_counts(path):
+    """Returns how many new counts each function of a file makes."""
+    found, name = {}, ""
+    with open(path, encoding="utf-8") as file:
+        for line in file:
+            code = line.split("//")[0]
+            name = (re.findall(r"\bfn (\w+)", code) or [name])[-1]
+            for _ in re.findall(r"\bLooks::new\(\)", code):
+                found[name] = found.get(name, 0) + 1
+    return found
+
+
+def check_counts():
+    """Compares the functions that make a new count of looks with those of NEW_COUNTS, which docs/DESIGN.md names."""
+    found = {}
+    for path in sources():
+        inside = re.fullmatch(r"crates/((\w+)/src/.*\.rt)", path)
+        if inside and inside[2] not in TESTING and not re.search(r"/tests(?:/|\.rt$)", path):
+            counts = new_counts(os.path.join(ROOT, path))
+            found.update({inside[1]: counts} if counts else {})
+    same(found, NEW_COUNTS)
+    with open(os.path.join(ROOT, "docs", "DESIGN.md"), encoding="utf-8") as file:
+        part = re.search(r"`grep -rn Looks::new .*?\n\n(.*?)\n\n##", file.read(), re.S)[1]
+    unnamed = [name for counts in NEW_COUNTS.values() for name in counts if "`%s`" % name not in part]
+    assert not unnamed, "docs/DESIGN.md does not name %s" % ", ".join(unnamed)
+    return "%d in %d functions" % (sum(map(sum, map(dict.values, found.values()))), sum(map(len, found.values())))
+
+
 def main():
     tally = Tally(sys.argv[1:])
     tally.step("rustfmt", check_rustfmt)
@@ -137,6 +179,7 @@ def main():
     tally.step("gcc, g++", check_c)
     tally.step("believed definitions", check_believed)
     tally.step("clauses of edits", check_edits)
+    tally.step("new counts of looks", check_counts)
     tally.step("embedded texts", check_embedded)
     tally.step("measured tables", check_figures)
     return tally.end()
