@@ -15,7 +15,7 @@
 # KIT is `rattle` or `none`. Without it, that is the Rattle kit if `rt` is on the PATH, or else what was built before. What is
 # built without the kit is tested, not proved, and says so. Both need a C compiler, and what they make needs the C library alone;
 # the programs of cargo also need libgcc_s. out/make.log has what the kit says. FLAGS are given to `rt`, as --cpu=x86-64-v3:
-# docs/C.md has the choices. FROM_GATE=1 takes the libraries and programs that `rt ci`, just before, proved and built in this
+# crates/demangle_c/README.md has the choices. FROM_GATE=1 takes the libraries and programs that `rt ci`, just before, proved and built in this
 # checkout (packaging/prove).
 
 VERSION := 0.1.0
