@@ -12,6 +12,7 @@ usage: crate.py [STEP..]
   filter      tests/filter.py over the program demangle_filter; tests/program.py tries kodliwe itself
   characters  the table of characters has the same entry for each of 1,114,112 code points as the kit's crate
   interface   the public items and their signatures are those of tests/crate/interface.txt
+  recursion   no function of the library or of its programs calls itself, in the machine code of a debug build
   no_std      a static library without std needs at most five functions of C and a 128-bit division
   package     `cargo package` makes the .crate files, with their licences, and builds each from its own
 
@@ -27,6 +28,7 @@ import subprocess
 import sys
 import tarfile
 
+import call_graph
 import rust_common as common
 import texts
 from common import ROOT, RUST, run
@@ -236,6 +238,25 @@ def check_interface(rust=RUST):
     return f"{len(lines)} items, methods and traits are as stored"
 
 
+def check_recursion(rust=RUST):
+    """Looks for functions that call themselves. std has such ones, those of the published crate, which have to be found."""
+    target = os.path.join(OUT, "recursion")
+    flags = "-C relocation-model=static -C symbol-mangling-version=v0"
+    cargo(rust, "build", "--package", "kodliwe-cli", target=target, RUSTFLAGS=flags)
+    told = []
+    for program in ("kodliwe", "demangle_filter"):
+        graph, indirect = call_graph.calls_of(os.path.join(target, "debug", program))
+        ours = {name for name in graph if re.search(r"Cs[0-9A-Za-z]+_(?:7kodliwe|11kodliwe_cli)", name)}
+        cycles = call_graph.cycles_of(graph)
+        check(any("14rustc_demangle2v0" in name for cycle in cycles for name in cycle), "the recursion of the published crate is not found")
+        wrong = [cycle for cycle in cycles if ours.intersection(cycle)]
+        check(not wrong, f"{program}: {wrong[:3]}")
+        unknown = sum(indirect.get(name, 0) for name in ours)
+        check(unknown < len(ours) / 50, f"{program}: {unknown} calls of {len(ours)} functions are of an unknown one")
+        told.append(f"{program}: {len(ours)} functions, {unknown} calls of an unknown one")
+    return ", ".join(told)
+
+
 def check_no_std(rust=RUST):
     folder = common.package(
         "no_std",
@@ -296,6 +317,7 @@ CHECKS = [
     ("filter", check_filter),
     ("characters", check_characters),
     ("interface", check_interface),
+    ("recursion", check_recursion),
     ("no_std", check_no_std),
     ("package", check_package),
 ]
