@@ -9,10 +9,12 @@ const kodliwe = require("../kodliwe.js");
 const ROUNDS = 5;
 const LEAST = 10_000;
 
+// The system divides the sum of both times by ticks, so one of them may not have changed.
 function timeOf(call, count) {
   const before = process.cpuUsage();
   for (let turn = 0; turn < count; turn++) call();
-  return process.cpuUsage(before).user;
+  const { user, system } = process.cpuUsage(before);
+  return user + system;
 }
 
 function costOf(call) {
