@@ -109,7 +109,7 @@ GIVEN = argparse.Namespace()
 
 
 class Text:
-    """A text with its bounds: the times of the published crate, the index of the text of half its size, and if no rate excuses it."""
+    """A text with its bounds: the times of the published crate, the index of its half, and whether its rate does not count."""
 
     def __init__(self, name, text, times=None, half=None, is_refused=False):
         self.name, self.bytes, self.times, self.half, self.is_refused = name, text.encode("ascii"), times, half, is_refused

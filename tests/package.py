@@ -23,8 +23,8 @@ It takes what `make` built, and what `make KIT=none` builds, and prints a line f
 
   tree        installed, run and removed in a fresh bookworm tree of debootstrap (with --tree)
   choice      without the kit and without KIT, `make` says in one line what both choices are
-  room        a clone of the last commit, an empty HOME and no kit: make, install, dist, cargo install, pip install and uninstall, with
-              their times; `make KIT=none` takes at most two minutes
+  room        a clone of the last commit, an empty HOME and no kit: README's commands that need none, `make`, `make dist` and
+              `make uninstall`, with their times; `make KIT=none` takes at most two minutes
 
 The last line is 'N passed, N failed'. A missing tool is a failure.
 """
@@ -293,7 +293,7 @@ def excluded():
     return any("/usr/share/man" in open(place).read() for place in glob.glob("/etc/dpkg/dpkg.cfg.d/*"))
 
 
-def without_kit():
+def kitless_environment():
     """Returns the environment without `rt` on the PATH."""
     env = {name: value for name, value in os.environ.items() if name not in ("MAKEFLAGS", "MFLAGS", "MAKELEVEL", "KIT", "KODLIWE_LIB")}
     env["PATH"] = os.pathsep.join(place for place in env["PATH"].split(os.pathsep) if not os.path.exists(os.path.join(place, "rt")))
@@ -305,7 +305,7 @@ class Room:
 
     def __init__(self, work):
         self.copy, self.times = os.path.join(work, "clone"), []
-        self.env = dict(without_kit(), HOME=os.path.join(work, "home"), CARGO_NET_OFFLINE="true")
+        self.env = dict(kitless_environment(), HOME=os.path.join(work, "home"), CARGO_NET_OFFLINE="true")
         # The cargo of rustup finds its compilers by HOME.
         self.env.setdefault("RUSTUP_HOME", os.path.expanduser("~/.rustup"))
         os.makedirs(self.env["HOME"])
@@ -320,7 +320,7 @@ class Room:
         return seconds
 
 
-def without_the_kit():
+def kitless_commands():
     """Returns the commands of README that need no kit: that of the program, of Rust, of C, of Python, and of the tests."""
     with open(os.path.join(ROOT, "README.md"), encoding="utf-8") as file:
         found = re.findall(r"^    ((?:cargo|make|pip) .*?) +# ", re.search(r"## Get it\n(.*?)\n\nThese", file.read(), re.S)[1], re.M)
@@ -334,7 +334,7 @@ def without_the_kit():
 def room(work):
     """Runs the commands of README and the others of `make` in a clone with an empty HOME and without `rt` on the PATH."""
     it, place, user = Room(work), os.path.join(work, "venv"), os.path.join(work, "user")
-    program, rust, c, python, tests = without_the_kit()
+    program, rust, c, python, tests = kitless_commands()
     seconds = it.timed("make KIT=none")
     it.timed(c)
     tree = os.path.join(it.env["HOME"], ".local")
@@ -364,7 +364,7 @@ def room(work):
 
 def choice(work):
     """In a folder with nothing built, and without `rt` on the PATH."""
-    copy, env = os.path.join(work, "unbuilt"), without_kit()
+    copy, env = os.path.join(work, "unbuilt"), kitless_environment()
     run(["git", "clone", "--quiet", ROOT, copy])
     shutil.copy(os.path.join(ROOT, "Makefile"), copy)
     for words in ([], ["install", "PREFIX=" + os.path.join(work, "nowhere")], ["dist"]):

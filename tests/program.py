@@ -1167,22 +1167,26 @@ def readme():
     same(read("link.map"), b"0x10 foo::bar\n")
 
 
-def built_debug(build, folder, *flags):
-    """Builds the crate's program as README does, with further flags of rustc, and returns it."""
+def built_debug(folder, scheme="v0", *flags):
+    """Builds the crate's program as README does, or in the legacy scheme, with further flags of rustc, and returns it."""
+    with open(os.path.join(ROOT, "README.md"), encoding="utf-8") as file:
+        build = re.search(r"^    (RUSTFLAGS=.* cargo build .*)$", file.read(), re.M).group(1)
+    # rustc has a flag for the newer scheme only.
+    build = build if scheme == "v0" else build.replace("-C symbol-mangling-version=v0", "")
+    build = build.replace("RUSTFLAGS='", "RUSTFLAGS='%s " % " ".join(flags))
     env = dict(os.environ, CARGO_TARGET_DIR=folder, CARGO_NET_OFFLINE="true")
-    build = build.replace("RUSTFLAGS='", "RUSTFLAGS='%s " % " ".join(flags)) if flags else build
     subprocess.run(["bash", "-c", build], cwd=ROOT, env=env, check=True, stdout=subprocess.PIPE, stderr=subprocess.STDOUT, timeout=900)
     return os.path.join(folder, "debug", "kodliwe")
 
 
-def tool_texts(build):
+def tool_texts():
     """Yields what tools write of debug builds in both schemes: a name, the text, and the same without underscores of macOS."""
     for scheme in ("v0", "legacy"):
         for linker in ("lld", "bfd"):
             folder = os.path.join(OUT, "tools", scheme, linker)
             listed = os.path.join(folder, "link.map")
             flags = ["-C", "link-arg=-fuse-ld=" + linker, "-C", "link-arg=-Wl,-Map=" + listed]
-            found = built_debug(build if scheme == "v0" else build.replace("-C symbol-mangling-version=v0", ""), folder, *flags)
+            found = built_debug(folder, scheme, *flags)
             yield "map of %s, %s" % (linker, scheme), read(listed), read(listed)
         names = subprocess.check_output([tool("nm"), found])
         yield "nm, " + scheme, names, names
@@ -1193,10 +1197,8 @@ def tool_texts(build):
 
 def tools():
     """Each symbol in what nm, objdump and two linkers write is replaced as by demangle_filter, which ignores what is before it."""
-    with open(os.path.join(ROOT, "README.md"), encoding="utf-8") as file:
-        build = re.search(r"^    (RUSTFLAGS=.* cargo build .*)$", file.read(), re.M).group(1)
     told = []
-    for name, text, plain in tool_texts(build):
+    for name, text, plain in tool_texts():
         wanted = subprocess.run([line_filter(), "--no-hash"], input=plain, stdout=subprocess.PIPE, check=True, timeout=120).stdout
         count = sum(line != path for line, path in zip(plain.split(b"\n"), wanted.split(b"\n"), strict=True))
         assert count >= 300, "%s: only %d lines have a symbol" % (name, count)
@@ -1208,10 +1210,8 @@ def tools():
 def sizes():
     """README's largest function: the same name, and about the same size, which the compiler decides."""
     command, wanted = next((command, wanted) for command, wanted in examples().items() if command.startswith("nm "))
-    with open(os.path.join(ROOT, "README.md"), encoding="utf-8") as file:
-        build = re.search(r"^    (RUSTFLAGS=.* cargo build .*)$", file.read(), re.M).group(1)
     folder = os.path.join(OUT, "sizes")
-    built_debug(build, folder)
+    built_debug(folder)
     found = shell(command.replace("rust/target", folder)).split(None, 1)
     wanted = wanted.split(None, 1)
     same(found[1], wanted[1])
