@@ -29,11 +29,11 @@ Remembers text_for memo = All (HoldsBoth text_for memo.bytes.items) memo.pairs.i
 abbrev pub allocated : TextMemo → ℕ
 allocated memo = 24 * vec_capacity memo.pairs + vec_capacity memo.bytes + 4 * (vec_capacity memo.noted + vec_capacity memo.too_long)
 
--- the vectors of fingerprints have at most these places
+-- the vectors of fingerprints have at most this many slots
 abbrev pub HasFewFingerprints : TextMemo → Type 0
 HasFewFingerprints memo = (vec_capacity memo.noted ≤ 8192) × (vec_capacity memo.too_long ≤ 8192)
 
--- each vector has at most these places, so all of them have allocated at most 4,456,448 bytes
+-- each vector has at most this many slots, so all of them have allocated at most 4,456,448 bytes
 abbrev pub IsSmall : TextMemo → Type 0
 IsSmall memo = (vec_capacity memo.pairs ≤ 8192) × (vec_capacity memo.bytes ≤ 4194304) × HasFewFingerprints memo
 

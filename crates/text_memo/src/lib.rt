@@ -115,7 +115,7 @@ pub fn hash_of(key: &[u8]) -> u64 {
 
 /// Returns the index of a key's pair.
 #[inline(always)]
-fn pair_place(hash: u64) -> usize
+fn pair_slot(hash: u64) -> usize
     ensures { result < PAIRS }
 {
     ((hash / 4_294_967_296) % 8192) as usize
@@ -123,7 +123,7 @@ fn pair_place(hash: u64) -> usize
 
 /// Returns the index of a key's fingerprint.
 #[inline(always)]
-fn fingerprint_place(hash: u64) -> usize
+fn fingerprint_slot(hash: u64) -> usize
     ensures { result < FINGERPRINTS }
 {
     ((hash / 1_099_511_627_776) % 8192) as usize
@@ -220,11 +220,11 @@ impl TextMemo {
             IfSome result (λ text. text.now ≡ text_for key.now) }
         ensures most { comparisons.new ≤ comparisons.old + 2 }
     {
-        let place = pair_place(hash);
-        if place >= self.pairs.len() {
+        let slot = pair_slot(hash);
+        if slot >= self.pairs.len() {
             return None;
         }
-        let pair = &self.pairs[place];
+        let pair = &self.pairs[slot];
         let fingerprint = fingerprint_of(hash);
         match self.text_at(&pair.newer, key, fingerprint, comparisons) {
             Some(text) => Some(text),
@@ -246,16 +246,16 @@ impl TextMemo {
         if self.noted.is_empty() {
             fill(&mut self.noted);
         }
-        let place = fingerprint_place(hash);
-        if place >= self.noted.len() {
+        let slot = fingerprint_slot(hash);
+        if slot >= self.noted.len() {
             return Noted::New;
         }
         let fingerprint = fingerprint_of(hash);
-        if self.noted[place] != fingerprint {
-            self.noted[place] = fingerprint;
+        if self.noted[slot] != fingerprint {
+            self.noted[slot] = fingerprint;
             return Noted::New;
         }
-        if self.too_long.get(place) == Some(&fingerprint) {
+        if self.too_long.get(slot) == Some(&fingerprint) {
             Noted::TooLong
         } else {
             Noted::Again
@@ -271,9 +271,9 @@ impl TextMemo {
         if self.too_long.is_empty() {
             fill(&mut self.too_long);
         }
-        let place = fingerprint_place(hash);
-        if place < self.too_long.len() {
-            self.too_long[place] = fingerprint_of(hash);
+        let slot = fingerprint_slot(hash);
+        if slot < self.too_long.len() {
+            self.too_long[slot] = fingerprint_of(hash);
         }
     }
 
@@ -318,14 +318,14 @@ impl TextMemo {
 
     /// Adds an entry to a pair as the newer one. The one that was newer becomes the older one, and
     /// the one that was older is removed.
-    fn put(&mut self, entry: Entry, place: usize)
+    fn put(&mut self, entry: Entry, slot: usize)
         ensures remembers { (text_for : List ℕ → List ℕ) → Remembers text_for self.old →
             Holds text_for self.old.bytes.items entry → Remembers text_for self.new }
         ensures others { SameFingerprints self.old self.new }
     {
-        if place < self.pairs.len() {
-            let older = self.pairs[place].newer;
-            self.pairs[place] = Pair {
+        if slot < self.pairs.len() {
+            let older = self.pairs[slot].newer;
+            self.pairs[slot] = Pair {
                 newer: entry,
                 older,
             };
@@ -353,7 +353,7 @@ impl TextMemo {
             text_len: text.len() as u16,
             fingerprint: fingerprint_of(hash),
         };
-        self.put(entry, pair_place(hash));
+        self.put(entry, pair_slot(hash));
     }
 
     /// Frees the memory of all entries if `Vec` allocated more than they need.

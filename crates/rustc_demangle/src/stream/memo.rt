@@ -132,8 +132,8 @@ fn print_first<'a>(
     ensures printed { result ≡ Tried.Printed → held.new ≡ replacement_in format run.now }
     ensures read { IsRunRead run.now result }
     ensures grows { looks.old ≤ looks.new }
-    ensures most { looks.new ≤ looks.old + 195 * (length run.now + 1) }
-    ensures early { result ≡ Tried.Unknown → looks.new ≤ looks.old + 133 * (length run.now + 1) + 8 }
+    ensures most { looks.new ≤ looks.old + 143 * (length run.now + 1) }
+    ensures early { result ≡ Tried.Unknown → looks.new ≤ looks.old + 85 * (length run.now + 1) + 8 }
 {
     held.clear();
     let mut sink = BufferSink::new(held);
@@ -191,9 +191,9 @@ impl Store {
         ensures read { IfSome result (λ symbol. symbol ≡ stripped run.now) }
         ensures texts { self.new.texts ≡ self.old.texts }
         ensures grows { looks.old ≤ looks.new }
-        ensures most { looks.new ≤ looks.old + 200 * (length run.now + 1) }
+        ensures most { looks.new ≤ looks.old + 152 * (length run.now + 1) }
     {
-        let most = if format.fold_arguments {
+        let most = if format.form.fold_arguments {
             MOST_FOLDED
         } else {
             MOST_PRINTED
@@ -257,7 +257,7 @@ fn print_new(run: &str, hash: u64, format: Format, store: &mut Store, looks: &mu
     ensures remembers { Remembers (replacement_in format) store.new.texts }
     ensures small { IsSmall store.old.texts → IsSmall store.new.texts }
     ensures grows { looks.old ≤ looks.new }
-    ensures most { looks.new ≤ looks.old + 200 * (length run.now + 1) }
+    ensures most { looks.new ≤ looks.old + 152 * (length run.now + 1) }
 {
     if let Some(symbol) = store.print_or_read(run, format, looks) {
         return store.print_read(&symbol, run, hash, format);
@@ -318,7 +318,7 @@ impl SymbolMemo {
             (replacement_in self.old run.now)) }
         ensures same { self.new ≡ self.old }
         ensures grows { looks.old ≤ looks.new }
-        ensures most { looks.new ≤ looks.old + 200 * (length run.now + 1) }
+        ensures most { looks.new ≤ looks.old + 152 * (length run.now + 1) }
     {
         match self.store.print_or_read(run, self.format, looks) {
             Some(symbol) => write_read_at_once(&symbol, run, output, self.format),
@@ -350,13 +350,19 @@ impl SymbolMemo {
     }
 
     /// Writes the replacement of a run: the printed symbol, or the run itself if it is not a
-    /// symbol. Fails if the writer fails.
-    pub(super) fn write_run<W: Write>(&mut self, run: &str, output: &mut W) -> io::Result<()>
+    /// symbol. Compares the run with at most two others. Fails if the writer fails.
+    pub(super) fn write_run<W: Write>(
+        &mut self,
+        run: &str,
+        output: &mut W,
+        comparisons: &mut Comparisons,
+    ) -> io::Result<()>
         requires all { list_all is_run_byte run.now ≡ true }
         requires some { 0 < length run.now }
         ensures text { OnOk result (Appends (W.contents output.old) (W.contents output.new)
             (replacement_in self.old run.now)) }
         ensures same { self.new ≡ self.old }
+        ensures compared { comparisons.new ≤ comparisons.old + 2 }
     {
         if !is_looked_up(run.as_bytes()) {
             return write_run(run, output, self.format);
@@ -365,8 +371,7 @@ impl SymbolMemo {
             return self.write_once(run, output, &mut Looks::new());
         }
         let hash = hash_of(run.as_bytes());
-        let mut comparisons = Comparisons::new();
-        if let Some(text) = self.store.texts.get(run.as_bytes(), hash, &mut comparisons) {
+        if let Some(text) = self.store.texts.get(run.as_bytes(), hash, comparisons) {
             self.probe.hit();
             return output.write_all(text);
         }

@@ -112,13 +112,13 @@ pub fn hash_of(key: &[u8]) -> u64 {
 
 /// Returns the index of a key's pair.
 #[cfg_attr(not(debug_assertions), inline(always))]
-fn pair_place(hash: u64) -> usize {
+fn pair_slot(hash: u64) -> usize {
     ((hash / 4_294_967_296) % 8192) as usize
 }
 
 /// Returns the index of a key's fingerprint.
 #[cfg_attr(not(debug_assertions), inline(always))]
-fn fingerprint_place(hash: u64) -> usize {
+fn fingerprint_slot(hash: u64) -> usize {
     ((hash / 1_099_511_627_776) % 8192) as usize
 }
 
@@ -188,11 +188,11 @@ impl TextMemo {
     /// Compares at most two keys.
     #[cfg_attr(not(debug_assertions), inline(always))]
     pub fn get(&self, key: &[u8], hash: u64) -> Option<&[u8]> {
-        let place = pair_place(hash);
-        if place >= self.pairs.len() {
+        let slot = pair_slot(hash);
+        if slot >= self.pairs.len() {
             return None;
         }
-        let pair = &self.pairs[place];
+        let pair = &self.pairs[slot];
         let fingerprint = fingerprint_of(hash);
         match self.text_at(&pair.newer, key, fingerprint) {
             Some(text) => Some(text),
@@ -210,16 +210,16 @@ impl TextMemo {
         if self.noted.is_empty() {
             fill(&mut self.noted);
         }
-        let place = fingerprint_place(hash);
-        if place >= self.noted.len() {
+        let slot = fingerprint_slot(hash);
+        if slot >= self.noted.len() {
             return Noted::New;
         }
         let fingerprint = fingerprint_of(hash);
-        if self.noted[place] != fingerprint {
-            self.noted[place] = fingerprint;
+        if self.noted[slot] != fingerprint {
+            self.noted[slot] = fingerprint;
             return Noted::New;
         }
-        if self.too_long.get(place) == Some(&fingerprint) {
+        if self.too_long.get(slot) == Some(&fingerprint) {
             Noted::TooLong
         } else {
             Noted::Again
@@ -231,9 +231,9 @@ impl TextMemo {
         if self.too_long.is_empty() {
             fill(&mut self.too_long);
         }
-        let place = fingerprint_place(hash);
-        if place < self.too_long.len() {
-            self.too_long[place] = fingerprint_of(hash);
+        let slot = fingerprint_slot(hash);
+        if slot < self.too_long.len() {
+            self.too_long[slot] = fingerprint_of(hash);
         }
     }
 
@@ -262,10 +262,10 @@ impl TextMemo {
 
     /// Adds an entry to a pair as the newer one. The one that was newer becomes the older one, and
     /// the one that was older is removed.
-    fn put(&mut self, entry: Entry, place: usize) {
-        if place < self.pairs.len() {
-            let older = self.pairs[place].newer;
-            self.pairs[place] = Pair {
+    fn put(&mut self, entry: Entry, slot: usize) {
+        if slot < self.pairs.len() {
+            let older = self.pairs[slot].newer;
+            self.pairs[slot] = Pair {
                 newer: entry,
                 older,
             };
@@ -287,7 +287,7 @@ impl TextMemo {
             text_len: text.len() as u16,
             fingerprint: fingerprint_of(hash),
         };
-        self.put(entry, pair_place(hash));
+        self.put(entry, pair_slot(hash));
     }
 
     /// Frees the memory of all entries if `Vec` allocated more than they need.

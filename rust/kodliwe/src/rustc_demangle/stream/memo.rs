@@ -141,7 +141,7 @@ impl Store {
     /// reads the run. Returns what the run was read as, or `None` if it was printed.
     #[cfg_attr(not(debug_assertions), inline(always))]
     fn print_or_read<'a>(&mut self, run: &'a str, format: Format) -> Option<Demangle<'a>> {
-        let most = if format.fold_arguments {
+        let most = if format.form.fold_arguments {
             MOST_FOLDED
         } else {
             MOST_PRINTED
@@ -257,7 +257,7 @@ impl SymbolMemo {
     }
 
     /// Writes the replacement of a run: the printed symbol, or the run itself if it is not a
-    /// symbol. Fails if the writer fails.
+    /// symbol. Compares the run with at most two others. Fails if the writer fails.
     pub(super) fn write_run<W: Write>(&mut self, run: &str, output: &mut W) -> io::Result<()> {
         if !is_looked_up(run.as_bytes()) {
             return write_run(run, output, self.format);
@@ -266,7 +266,6 @@ impl SymbolMemo {
             return self.write_once(run, output);
         }
         let hash = hash_of(run.as_bytes());
-
         if let Some(text) = self.store.texts.get(run.as_bytes(), hash) {
             self.probe.hit();
             return output.write_all(text);
