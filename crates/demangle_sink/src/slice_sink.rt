@@ -1,5 +1,5 @@
 //! A sink that writes to a slice of the caller.
-ghost use Rattle.std.specs.Prelude.{◌≡◌, ◌-◌, [], drop, length, Some, true, false, refl, IsOk, OnOk, OnErr};
+ghost use Rattle.std.specs.Prelude.{◌≡◌, ◌≤◌, ◌+◌, ◌-◌, [], drop, length, Some, true, false, refl, IsOk, OnOk, OnErr};
 ghost use Rattle.std.proofs.Common.{◌∙◌};
 ghost use Rattle.std.below.core.specs.declared.int.usize.TheConstants.{MAX};
 ghost use Rattle.demangle_sink.specs.Sink.{IsWithin, room_after};
@@ -82,17 +82,42 @@ impl<'b> SliceSink<'b> {
             IsOk result × (⟦<SliceSink<'b> as TextSink>⟧.room self.new
             ≡ room_after (length bytes.now) (⟦<SliceSink<'b> as TextSink>⟧.room self.old)) }
     {
-        if bytes.len() > usize::MAX - self.len {
+        let Some(end) = self.len.checked_add(bytes.len()) else {
             self.failed = true;
             return Err(SinkRefused);
+        };
+        // Most sinks begin with the text and have room for all of it, so only that is inlined.
+        if self.start > 0 {
+            write_part(self.out, self.start, self.len, bytes);
+        } else if end <= self.out.len() {
+            write_whole(self.out, self.len, bytes);
+        } else if self.len < self.out.len() {
+            write_at(self.out, self.len, bytes);
         }
-        if self.start <= self.len {
-            write_at(self.out, self.len - self.start, bytes);
-        } else {
-            write_from(self.out, self.start - self.len, bytes);
-        }
-        self.len += bytes.len();
+        self.len = end;
         Ok(())
+    }
+}
+
+/// Writes bytes to the slice from a place, after which it has room for all of them.
+#[inline(always)]
+fn write_whole(out: &mut [u8], place: usize, bytes: &[u8])
+    requires { place + length bytes.now ≤ length out.old }
+    ensures { out.new ≡ overlay_from place out.old bytes.now }
+{
+    copy_piece(bytes, &mut out[place..place + bytes.len()]);
+}
+
+/// Writes the bytes of a text after its first `len` ones, as far as the slice reaches. The slice
+/// begins with byte `start` of the text.
+#[inline(never)]
+fn write_part(out: &mut [u8], start: usize, len: usize, bytes: &[u8])
+    ensures { out.new ≡ overlay_from (len - start) out.old (drop (start - len) bytes.now) }
+{
+    if start <= len {
+        write_at(out, len - start, bytes);
+    } else {
+        write_from(out, start - len, bytes);
     }
 }
 
@@ -104,7 +129,7 @@ fn write_from(out: &mut [u8], before: usize, bytes: &[u8])
 }
 
 /// Writes bytes to the slice from a place, as far as it reaches.
-#[inline(always)]
+#[inline(never)]
 fn write_at(out: &mut [u8], place: usize, bytes: &[u8])
     ensures { out.new ≡ overlay_from place out.old bytes.now }
 {

@@ -51,17 +51,37 @@ impl<'b> SliceSink<'b> {
     /// on, and the slice is unchanged.
     #[cfg_attr(not(debug_assertions), inline(always))]
     pub fn put_bytes(&mut self, bytes: &[u8]) -> Result<(), SinkRefused> {
-        if bytes.len() > usize::MAX - self.len {
+        let Some(end) = self.len.checked_add(bytes.len()) else {
             self.failed = true;
             return Err(SinkRefused);
+        };
+        // Most sinks begin with the text and have room for all of it, so only that is inlined.
+        if self.start > 0 {
+            write_part(self.out, self.start, self.len, bytes);
+        } else if end <= self.out.len() {
+            write_whole(self.out, self.len, bytes);
+        } else if self.len < self.out.len() {
+            write_at(self.out, self.len, bytes);
         }
-        if self.start <= self.len {
-            write_at(self.out, self.len - self.start, bytes);
-        } else {
-            write_from(self.out, self.start - self.len, bytes);
-        }
-        self.len += bytes.len();
+        self.len = end;
         Ok(())
+    }
+}
+
+/// Writes bytes to the slice from a place, after which it has room for all of them.
+#[cfg_attr(not(debug_assertions), inline(always))]
+fn write_whole(out: &mut [u8], place: usize, bytes: &[u8]) {
+    copy_piece(bytes, &mut out[place..place + bytes.len()]);
+}
+
+/// Writes the bytes of a text after its first `len` ones, as far as the slice reaches. The slice
+/// begins with byte `start` of the text.
+#[inline(never)]
+fn write_part(out: &mut [u8], start: usize, len: usize, bytes: &[u8]) {
+    if start <= len {
+        write_at(out, len - start, bytes);
+    } else {
+        write_from(out, start - len, bytes);
     }
 }
 
@@ -71,7 +91,7 @@ fn write_from(out: &mut [u8], before: usize, bytes: &[u8]) {
 }
 
 /// Writes bytes to the slice from a place, as far as it reaches.
-#[cfg_attr(not(debug_assertions), inline(always))]
+#[inline(never)]
 fn write_at(out: &mut [u8], place: usize, bytes: &[u8]) {
     if place < out.len() {
         let kept = bytes.len().min(out.len() - place);
