@@ -1,19 +1,26 @@
 #!/usr/bin/env python3
-"""Measures the library for C, alone, through Python, and next to the Rust crate.
+"""Measures the library for C, alone, through Python, and next to the Rust crate, and prints a table.
 
-The library is the proved one that `make` built, and the tested one of `make KIT=none`, or that of --library. For each of
-them it prints the sizes of the archive and of the shared library, the processor time of 100,000 real symbols through bindings/python,
-and the longest call for a hostile tree whose output and limit are 4,096 bytes. With --rust-crate, the folder of the Rust crate
-rustc-demangle, one Rust program calls both libraries for each stored symbol. It prints how many results differ, and the instructions of
-a call (`valgrind --tool=callgrind`, three iterations less one) for the real legacy and v0 symbols.
+The library is the proved one that `make` built, and the tested one of `make KIT=none`, or that of --library. The rows are these:
+
+- instructions of a call (`valgrind --tool=callgrind`, three iterations less one) for the real legacy and v0 symbols. One Rust program calls
+  the library and the published crate, and for real symbols both have to return the same, with the hash and without it;
+- the sizes of the archive and of the shared library;
+- the processor time of 100,000 calls for real symbols through bindings/python;
+- the longest call for a hostile tree whose output and limit are 4,096 bytes;
+- the same call for a symbol of 10,102 bytes, whose references make the printer read an impl path again and again.
+
+The published crate is Debian's, or that of --crate.
 """
-import argparse, os, shutil, sys, tempfile
+import argparse, glob, os, re, shutil, sys, tempfile
 
-from measuring import ROOT, instructions
-from common import INCLUDE, Library, add_libraries, run, tool
+from measuring import ROOT, instructions, need_rust_crate
+from common import INCLUDE, Library, add_libraries, run, same, tool
+from hostile_texts import nested
 from texts import NO_LIMIT, REAL, record, stored, trees
 
 HERE = os.path.join(ROOT, "bench", "c_speed")
+DEBIAN = "/usr/share/cargo/registry"
 SPEED = """
 import sys, time, kodliwe
 texts = [line.decode() for line in open(sys.argv[1], 'rb').read().split(b'\\n')[:-1]]
@@ -36,10 +43,12 @@ def python(folder, library, symbols):
     return run([sys.executable, "-c", SPEED, real], env=env).decode().strip()
 
 
-def times(folder, library):
+def longest(folder, library, symbols):
+    """Returns the milliseconds of the longest call for one of these symbols."""
     program = os.path.join(folder, "times")
     run([tool("gcc"), "-O1", "-I", INCLUDE, os.path.join(HERE, "times.c"), library.archive, "-o", program])
-    return run([program], input=b"".join(map(record, trees()))).decode().strip()
+    said = run([program], input=b"".join(map(record, symbols))).decode()
+    return re.search(r"the longest call ([\d.]+) ms", said)[1]
 
 
 def rust_program(folder, library, crate):
@@ -64,32 +73,49 @@ def call_instructions(program, which, symbols):
     return (many - few) // (2 * len(symbols))
 
 
-def beside(folder, library, crate, symbols):
+def check_real(program, symbols):
+    """Fails if the published crate returns another path for a real symbol, with the hash or without it."""
+    real = [symbol for _, start, end in REAL for symbol in symbols[start:end]]
+    *differ, last = run([program, "both", "1"], input=b"".join(map(record, real))).decode().splitlines()
+    assert not differ, "%d of the paths of %d real symbols differ, the first %s" % (len(differ), len(real), differ[0])
+    same(last, "compared %d" % (2 * len(real)))
+
+
+def rows_of(folder, library, crate, symbols):
+    """Yields what is measured of a library, and the figures of the library and of the crate, if it has one."""
     program = rust_program(folder, library, crate)
-    said = run([program, "both", "1"], input=b"".join(map(record, symbols))).decode().split("\n")
-    differ = {bytes.fromhex(line.split()[1]) for line in said if line.startswith("differs ")}
-    real = {symbol for _, start, end in REAL for symbol in symbols[start:end]}
-    print("%d texts in both forms, %d answered otherwise by that crate, %d of them real" % (len(symbols), len(differ), len(differ & real)))
+    check_real(program, symbols)
     for name, start, end in REAL:
         ours, theirs = (call_instructions(program, which, symbols[start:end]) for which in ("kodliwe", "crate"))
-        print("%d real %s symbols: %d instructions a call, the Rust crate %d" % (end - start, name, ours, theirs))
+        yield "instructions a call, %d real %s symbols" % (end - start, name), "{:,}".format(ours), "{:,}".format(theirs)
+    yield "bytes of the archive", "{:,}".format(os.path.getsize(library.archive)), ""
+    yield "bytes of the shared library", "{:,}".format(os.path.getsize(library.shared)), ""
+    yield "seconds, 100,000 calls through Python", python(folder, library, symbols), ""
+    yield "milliseconds, the longest call for a hostile tree", longest(folder, library, trees()), ""
+    long = nested("MIC0%sEC0" % ("h" * 10_000), 18).encode()
+    yield "milliseconds, the same for a symbol of {:,} bytes".format(len(long)), longest(folder, library, [long]), ""
 
 
 def main():
     parser = argparse.ArgumentParser(description=__doc__, formatter_class=argparse.RawDescriptionHelpFormatter)
-    parser.add_argument("--rust-crate", metavar="FOLDER", help="the folder of the Rust crate rustc-demangle")
+    parser.add_argument("--crate", metavar="PATH", help="the source of the published crate rustc-demangle")
     add_libraries(parser)
     options = parser.parse_args()
+    crate = options.crate or max(glob.glob(os.path.join(DEBIAN, "rustc-demangle-[0-9]*")), default=DEBIAN)
+    need_rust_crate(crate)
     symbols = [symbol for symbol, limit, _ in stored() if limit == NO_LIMIT]
-    for library in map(Library, [options.library] if options.library else Library.KINDS):
+    kinds, table = [options.library] if options.library else Library.KINDS, {}
+    for library in map(Library, kinds):
         library.made()
-        sizes = [os.path.getsize(path) for path in (library.archive, library.shared)]
-        print("%s: %d bytes of archive, %d of shared library" % (library.version, *sizes))
         with tempfile.TemporaryDirectory() as folder:
-            print("100,000 texts, real symbols, through Python: %s s of processor time" % python(folder, library, symbols))
-            print(times(folder, library))
-            if options.rust_crate:
-                beside(folder, library, options.rust_crate, symbols)
+            for what, ours, theirs in rows_of(folder, library, crate, symbols):
+                # The crate's figure is that beside the last library.
+                row = table.setdefault(what, {})
+                row[library.kind], row["crate"] = ours, theirs
+    print("| from C | %s | published crate |" % " | ".join(kinds))
+    print("| --- |" + " ---: |" * (len(kinds) + 1))
+    for what, row in table.items():
+        print("| %s | %s | %s |" % (what, " | ".join(row[kind] for kind in kinds), row["crate"]))
 
 
 if __name__ == "__main__":

@@ -5,10 +5,15 @@ Each symbol is one line of standard input. It prints a Markdown table with a row
 the seconds from start to end, the peak memory of the process in megabytes (its greatest resident set) and the bytes that
 it wrote, or how it failed. A program is killed after the timeout. The table has one symbol of each kind, and all of them
 with --all. With --stack, demangle_filter runs again with its stack limited. `make` builds it.
+
+A second table has the processor time of kodliwe, as it is and with --limit 10000, for texts whose references make a printer
+read a part that is not printed again and again: lines that are no symbols, and one symbol in three lengths. The longest
+run takes over a minute.
 """
 import argparse, ctypes, os, signal, subprocess, tempfile, threading, time
 
-from measuring import FILTER, further, need_programs, others
+from hostile_texts import FAMILIES, nested
+from measuring import FILTER, KODLIWE, further, need_programs, others
 from texts import hostile
 
 # The shell ends, and leaves the program to this process as a child, which starts when the gate opens. A child that this
@@ -28,6 +33,8 @@ SHOWN = (
     "`_RMC0FG`, 10 `Z`, `_Eu`",
     "10^6 times `_ZN1aE `",
 )
+# The texts of the second table, and the seconds after which such a run is killed.
+LINES, LENGTHS, LONG = 500, (1_000, 10_000, 30_000), 600
 
 
 class Run:
@@ -48,6 +55,7 @@ class Run:
             _, status, usage = os.wait4(pid, 0)
             self.seconds = time.perf_counter() - began
             watch.cancel()
+            self.processor = usage.ru_utime + usage.ru_stime
             self.kilobytes = usage.ru_maxrss
             self.written = os.path.getsize(out)
         self.end = self.ended(os.waitstatus_to_exitcode(status), timeout)
@@ -64,6 +72,25 @@ class Run:
     def cell(self):
         wrote = self.end or "{:,}".format(self.written)
         return "{:.2f}, {:.1f}, {}".format(self.seconds, self.kilobytes / 1024, wrote)
+
+
+def unprinted():
+    """Yields the texts of the second table, with their names."""
+    text = FAMILIES["A"](LINES * 2029)
+    yield "%d lines of %s bytes that are no symbols" % (LINES, "{:,}".format(text.index("\n"))), text
+    for count in LENGTHS:
+        symbol = nested("MIC0%sEC0" % ("h" * count), 18)
+        yield "18 tuples in each other around an impl path, {:,} bytes".format(len(symbol)), symbol + "\n"
+
+
+def print_unprinted(program):
+    """Prints the second table, of this program."""
+    print("\n| seconds of processor time | kodliwe | kodliwe, `--limit 10000` |")
+    print("| --- | ---: | ---: |")
+    for case, text in unprinted():
+        runs = [Run([program, *limit], text.encode(), LONG, USUAL_STACK) for limit in ([], ["--limit", "10000"])]
+        cells = [run.end or "{:.2f}".format(run.processor) for run in runs]
+        print("| " + " | ".join([case] + cells) + " |", flush=True)
 
 
 def main():
@@ -95,6 +122,7 @@ def main():
         text = (symbol + "\n").encode()
         cells = [Run(program, text, given.timeout, stack).cell() for _, program, stack in programs]
         print("| " + " | ".join([case] + cells) + " |", flush=True)
+    print_unprinted(KODLIWE)
 
 
 if __name__ == "__main__":

@@ -39,6 +39,7 @@ TABLES = [
         ],
     ),
     ("crates", ["crates", "rust"], ["bench/crates.py", *CRATE]),
+    ("c", ["crates", "rust"], ["bench/c_speed.py", *CRATE]),
     ("stack", ["crates"], ["bench/stack.py", "--also", "kodliwe=" + KODLIWE]),
     ("hostile", ["crates"], ["bench/hostile.py", "--also", "kodliwe=" + KODLIWE]),
 ]

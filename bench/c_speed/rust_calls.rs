@@ -1,6 +1,7 @@
-//! Calls the proved library and the Rust crate with the same symbols. usage: rust_calls both|kodliwe|crate TURNS < RECORDS
+//! Calls the library for C and the Rust crate with the same symbols. usage: rust_calls both|kodliwe|crate TURNS < RECORDS
 //!
-//! A record is that of answers.c: 4 bytes of the symbol's length, 8 that are skipped, the symbol.
+//! A record is that of answers.c: 4 bytes of the symbol's length, 8 that are skipped, the symbol. `both` compares the paths with the
+//! hash and without it, prints a line for each that differs, and then how many it compared. The others print with the hash.
 use std::fmt::Write;
 use std::hint::black_box;
 use std::io::Read;
@@ -77,6 +78,7 @@ fn main() {
         rest = &rest[12 + len..];
     }
     let (mut ours, mut theirs) = (vec![0; ROOM], vec![0; ROOM]);
+    let mut compared = 0;
     for _ in 0..turns {
         for symbol in &symbols {
             for hash in [true, false] {
@@ -88,6 +90,7 @@ fn main() {
                         drop(black_box(by_crate(black_box(symbol), &mut ours, hash)))
                     }
                     "both" => {
+                        compared += 1;
                         let (a, b) = (
                             by_kodliwe(symbol, &mut ours, hash),
                             by_crate(symbol, &mut theirs, hash),
@@ -95,12 +98,16 @@ fn main() {
                         if a != b || a.is_some_and(|n| ours[..n] != theirs[..n]) {
                             let hex: String =
                                 symbol.iter().map(|byte| format!("{byte:02x}")).collect();
-                            println!("differs {hex}");
+                            let form = if hash { "with" } else { "without" };
+                            println!("differs {form} the hash: {hex}");
                         }
                     }
                     _ => {}
                 }
             }
         }
+    }
+    if which == "both" {
+        println!("compared {compared}");
     }
 }
