@@ -20,6 +20,8 @@ line for each of these:
   version     kodliwe_version says how the library was built, at each size of the output
   beside std  a program of Rust, with its own std, links with the archive
   package     rust/kodliwe-capi: the erased tests of the calls pass, and cargo fmt and clippy report nothing (only the tested library)
+  cargo's     the archive that cargo writes, of which `make KIT=none` makes the tested one: it defines functions of the compiler's library
+              too, needs bcmp too, and answers.c gives the stored answers with it, linked as usual and with -static
   by name     rustc_demangle is a function of the shared library, and returns the same as the crate's
   sanitizers  tests/c_library/many.c makes each call for 20,000 texts, most of them damaged symbols, from two threads at once,
               built with AddressSanitizer, UndefinedBehaviorSanitizer and ThreadSanitizer; with --all for 200,000
@@ -31,14 +33,17 @@ The last line is 'N passed, N failed'. A missing tool is a failure.
 """
 import argparse, ctypes, os, re, struct, subprocess, sys, tempfile
 from concurrent.futures import ThreadPoolExecutor
+from types import SimpleNamespace
 
-from common import INCLUDE, ROOT, Library, Tally, add_libraries, declared_calls, instructions, run, same, tool
+from common import INCLUDE, ROOT, Library, Tally, add_libraries, built, declared_calls, instructions, run, same, tool
 from rust_common import digests, is_utf8
 from texts import NO_LIMIT, REAL, chained, column, damaged, escaped, hostile, into_name, record, stored, trees
 
 HERE = os.path.join(ROOT, "tests", "c_library")
 CALLS = declared_calls()
 WANTED = ["memcpy", "memmove", "memset", "strlen"]
+# What cargo itself writes.
+CARGO_ARCHIVE = os.path.join(ROOT, "out", "none", "cargo", "release", "libkodliwe.a")
 # How many texts the sanitizers see.
 FEW, ALL = 20_000, 200_000
 # The most bytes of stack that a call touches, for a real symbol, and for one in the first call of a process.
@@ -68,6 +73,22 @@ def check_archive(library):
         ", ".join(defined),
         ", ".join(wanted),
     )
+
+
+def check_cargo_archive(folder, expected):
+    """Tries what C.md says of the archive that cargo writes."""
+    defined = set(re.findall(r" T (\S+)$", run([tool("nm", "binutils"), built(CARGO_ARCHIVE)]).decode(), re.M))
+    assert set(CALLS) < defined, "it lacks %s, or defines nothing else" % sorted(set(CALLS) - defined)
+    # What the linker takes of it, for all calls.
+    linked = os.path.join(folder, "linked.o")
+    run([tool("ld"), "-r", *("-u" + name for name in CALLS), "-o", linked, CARGO_ARCHIVE])
+    needed = run([tool("nm"), "--undefined-only", "--format=just-symbols", linked]).decode().split()
+    assert "bcmp" in needed and set(needed) <= {*WANTED, "bcmp"}, "it needs %s" % needed
+    some = expected[::20]
+    for compiler, plus, way in (("gcc", "g++", "usual"), ("clang", "clang++", "static")):
+        program = answers_program(folder, SimpleNamespace(archive=CARGO_ARCHIVE), compiler, plus, way)
+        compared(run([program], input=b"".join(record(symbol, limit) for symbol, limit, _ in some)), some)
+    return "needs %s; %d texts, by gcc and static by clang: no answer differs" % (", ".join(needed), len(some))
 
 
 def check_exports(library):
@@ -433,6 +454,8 @@ def try_library(tally, library, expected, texts):
         step("package", check_package)
     with tempfile.TemporaryDirectory() as folder:
         step("version", check_version, folder, library)
+        if library.kind == "tested":
+            step("cargo's archive", check_cargo_archive, folder, expected)
         step("beside std", check_beside_std, folder, library)
         for compiler, plus in (("gcc", "g++"), ("clang", "clang++")):
             for way in ("usual", "static", "shared", "C++", "AddressSanitizer"):

@@ -516,7 +516,9 @@ def run_refusing(first, last, words, text):
     write("refusing/in", b"_ZN1bE\n")
     write("refusing/out", b"old")
     env = dict(LD_PRELOAD=os.path.abspath("refuse.so"), FIRST=str(first), LAST=str(last), COUNT="count")
-    found = run(*words, text=text, env=env)
+    # From a file, since the chunks of a pipe, and so the allocations, depend on the load.
+    with open(write("given", text), "rb") as given:
+        found = run(*words, text=None, stdin=given, env=env)
     return (*found, {name: read("refusing/" + name) for name in os.listdir("refusing")}), *map(int, read("count").split())
 
 
