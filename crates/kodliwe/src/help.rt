@@ -13,7 +13,7 @@ is no Rust symbol stays as it is: bytes that are not UTF-8, and C++ functions.
   kodliwe _ZN3foo17h05af221e174051e9E
 
 Options:
-  -i, --input FILE    Read FILE; - is standard input. May stand several times
+  -i, --input FILE    Read FILE; - is standard input. May be given several times
   -o, --output FILE   Write FILE once all is read; - is standard output
       --hash          Keep the hashes of legacy symbols (foo::h05af221e174051e9)
   -f, --fold          Print generic arguments as _ (Vec<_> for Vec<u8>)
@@ -21,10 +21,10 @@ Options:
       --man           Print the manual page; kodliwe --man | man -l - shows it
       --completions SHELL  Print the completions of bash, zsh or fish
   -h, --help          Print this help
-  -V, --version       Print the version, the logic of the proofs and the licence
+  -V, --version       Print the version, how it was built, and the licence
       --              Each word after it is a SYMBOL
 
-SYMBOLs and inputs are filtered in their order, each by itself. The status is 0,
-also if whoever reads the output closes it; 1 if an input can't be read or the
-output can't be written; 2 if an option is not valid, and then nothing is read.
+SYMBOLs and inputs are printed in their order. The status is 0, also if the
+reader of the output closes it; 1 if an input can't be read or the output can't
+be written; 2 if an option is not valid, and then nothing is read.
 ";
