@@ -1,10 +1,12 @@
 -- Back references.
+use Rattle.demangle_sink.specs.declared.SinkRefused.{SinkRefused}
+use Rattle.demangle_v0.specs.declared.parser.State.{State}
 use Rattle.std.specs.Prelude.{◌*◌, ◌^◌, if◌then◌else◌}
 use Rattle.std.proofs.lemmas.Bool.{false≢true}
 use Rattle.std.proofs.Common.{◌≡◌, ℕ, zero, suc, sub-one, ◌+◌, ◌-◌, ◌<◌, ◌≤◌, length, Bool, true, false, Some, None, List, [], ◌∷◌, ◌++◌, Ok, Err, refl, arith, sym, ap, ◌∙◌}
 use Rattle.demangle_symbol.specs.Primitives.{Read, backref_at}
 use Rattle.demangle_v0_grammar.specs.LookTotals.{total}
-use Rattle.demangle_v0_grammar.specs.Traces.{Trace, of, empty_trace, and_then, with_looks, with_texts, context_at}
+use Rattle.demangle_v0_grammar.specs.Traces.{Trace, of, empty_trace, and_then, with_looks, with_texts, context_at, with_reference}
 use Rattle.demangle_v0_tokens.specs.Texts.{text}
 use Rattle.demangle_v0_grammar.specs.Items.{Kind, a_path, a_type, a_constant, a_trait_path, target}
 use Rattle.demangle_v0.specs.Steps.{Machine, Env, LooksWithin, Performs, PerformsAt, CanRead}
@@ -18,10 +20,10 @@ use Rattle.demangle_v0_tokens.specs.declared.backref.BackrefOutcome.TheVariants.
 use Rattle.demangle_v0.specs.declared.parser.Continuation.{Continuation}
 use Rattle.demangle_v0.specs.declared.parser.Continuation.TheVariants as continuation
 use Rattle.demangle_v0.specs.declared.parser.frames.Frame.{Frame}
-use Rattle.demangle_v0.specs.declared.parser.StepError.TheVariants.{Abort}
+use Rattle.demangle_v0.specs.declared.parser.StepError.TheVariants.{Abort, Sink}
 use Rattle.demangle_v0_tokens.specs.declared.output.Output.{Ghosts}
 use Rattle.demangle_v0.proofs.StepRules.{way_light}
-use Rattle.demangle_v0.proofs.StepCases.{text_step, ends}
+use Rattle.demangle_v0.proofs.StepCases.{text_step, ends, follows_on, follows_no_more}
 use Rattle.demangle_v0.proofs.PrimitiveLooks.{refer_short, refer_few}
 use Rattle.std.proofs.lemmas.List.{append-nil}
 
@@ -32,6 +34,10 @@ shut_allowing false ks h = refl
 shut_after : (closed : Bool) (h : Trace) (j : ℕ) → none_open_if closed (and_then h (λ i o. empty_trace (Some j) o)) ≡ and_then (none_open_if closed h) (λ i o. empty_trace (Some j) o)
 shut_after true h j = refl
 shut_after false h j = refl
+
+shut_reference : (closed : Bool) (h : Trace) → none_open_if closed (with_reference true h) ≡ with_reference true (none_open_if closed h)
+shut_reference true h = refl
+shut_reference false h = refl
 
 shut_fault : (closed out : Bool) (m : FixedText) → none_open_if closed (with_texts out (text m ∷ []) (empty_trace None false)) ≡ with_texts out (text m ∷ []) (empty_trace None false)
 shut_fault true out m = refl
@@ -62,7 +68,7 @@ unit_trait b form v c n = record { same = λ left t. refl; light = omega arith; 
 module _ {V : Type 0} (output : Ghosts V) (b : List ℕ) (form : Form) where
   abbrev led : Bool → ℕ → Kind → Bool → ℕ → BackrefOutcome → Trace
   led out left k v n (NotFollowed m) = with_texts out (text m ∷ []) (empty_trace None false)
-  led out left k v n (Target t j) = if out then and_then (of form true (level_of b form.fold_arguments (levels b form.fold_arguments (left - 1)) true k v n t)) (λ i o. empty_trace (Some j) o) else empty_trace (Some j) false
+  led out left k v n (Target t j) = if out then with_reference true (and_then (of form true (level_of b form.fold_arguments (levels b form.fold_arguments (left - 1)) true k v n t)) (λ i o. empty_trace (Some j) o)) else empty_trace (Some j) false
 
   target_trace : (left : ℕ) (k : Kind) (v : Bool) (n : ℕ) (i : Place) (r : BackrefOutcome) → r ≡ (read_backref b left i).refers
       → of form output.is_printed (parse (target k v) (context_at b form output.is_printed left n) i) ≡ with_looks (read_backref b left i).costs (led output.is_printed left k v n r)
@@ -85,6 +91,16 @@ module _ {V : Type 0} (output : Ghosts V) (b : List ℕ) (form : Form) where
 
   shut_trace : (closed : Bool) (left : ℕ) (k : Kind) (v : Bool) (n : ℕ) (i : Place) (r : BackrefOutcome) → r ≡ (read_backref b left i).refers → target_at closed left k v n i ≡ with_looks (read_backref b left i).costs (none_open_if closed (led output.is_printed left k v n r))
   shut_trace closed left k v n i r e = ap (none_open_if closed) (target_trace left k v n i r e) ∙ shut_allowing closed (read_backref b left i).costs (led output.is_printed left k v n r)
+
+  -- the trace of a reference that is followed
+  shown_trace : (s : State) (closed : Bool) (k : Kind) (v : Bool) (a j : ℕ) → Target a j ≡ (read_backref b s.depth_left s.place).refers → output.is_printed ≡ true
+      → target_at closed s.depth_left k v s.lifetimes s.place
+      ≡ with_looks (read_backref b s.depth_left s.place).costs (with_reference true (none_open_if closed (and_then (of form true (level_of b form.fold_arguments (levels b form.fold_arguments (s.depth_left - 1)) true k v s.lifetimes a)) (λ i o. empty_trace (Some j) o))))
+  shown_trace s closed k v a j r q =
+      let ks = (read_backref b s.depth_left s.place).costs in
+      shut_trace closed s.depth_left k v s.lifetimes s.place (Target a j) r
+      ∙ (ap (λ (z : Bool). with_looks ks (none_open_if closed (led z s.depth_left k v s.lifetimes (Target a j)))) q
+      ∙ ap (with_looks ks) (shut_reference closed (and_then (of form true (level_of b form.fold_arguments (levels b form.fold_arguments (s.depth_left - 1)) true k v s.lifetimes a)) (λ i o. empty_trace (Some j) o))))
 
   ref_paid : (left t j : ℕ) (i : Place) → Target t j ≡ (read_backref b left i).refers → 1 ≤ total (read_backref b left i).costs
   ref_paid left t j None e = absurd (no_target e)
@@ -124,23 +140,34 @@ module _ {V : Type 0} {e : Env V} where
       refl (rw append-nil p) (omega arith) (omega (arith, p.within, refer_short e.symbol s.depth_left s.place)) (omega (arith, ref_paid e.output e.symbol e.form s.depth_left a j s.place r)) (omega arith) (omega arith) tt tt (λ _. tt)
 
   -- the reference is followed
-  pub target_shown : {t : Machine V} {stack : List Frame} {n most : ℕ} (p : Continuation) (closed : Bool) (k : Kind) (v : Bool) (a j : ℕ) → IsProduction e.symbol e.form p t.state.in_value t.state.letter t.state.lifetimes closed k v → Target a j ≡ (read_backref e.symbol t.state.depth_left t.state.place).refers
-      → LooksWithin t.looks (read_backref e.symbol t.state.depth_left t.state.place).costs n → e.output.is_printed ≡ true → 0 < t.state.depth_left → j < 2 ^ 64 → CanRead continuation.Path most t.state t.stack
+  pub target_shown : {t : Machine V} {stack : List Frame} {w : V} {n most : ℕ} (p : Continuation) (closed : Bool) (k : Kind) (v : Bool) (a j : ℕ) → IsProduction e.symbol e.form p t.state.in_value t.state.letter t.state.lifetimes closed k v → Target a j ≡ (read_backref e.symbol t.state.depth_left t.state.place).refers
+      → LooksWithin t.looks (read_backref e.symbol t.state.depth_left t.state.place).costs n → e.output.is_printed ≡ true → e.output.follows t.output (Ok tt) w → e.output.ready w → 0 < t.state.depth_left → j < 2 ^ 64 → CanRead continuation.Path most t.state t.stack
       → stack ≡ t.stack ++ frame_of continuation.AfterBackref t.state.in_value t.state.letter t.state.depth_left j ∷ []
-      → Performs e t (target_part e closed k v t.state) (Ok p) (record t { state = record t.state { depth_left = t.state.depth_left - 1; place = Some a; is_bracket_open = false }; stack = stack; looks = n })
+      → Performs e t (target_part e closed k v t.state) (Ok p) (record t { state = record t.state { depth_left = t.state.depth_left - 1; place = Some a; is_bracket_open = false }; stack = stack; output = w; looks = n })
   unfolding then_frame trace_at
-  target_shown {t} p closed k v a j unit r within_budget q d small can_step w =
+  target_shown {t} p closed k v a j unit r within_budget q put ready d small can_step w =
       let s = t.state in
       let ks = (read_backref e.symbol s.depth_left s.place).costs in
-      text_step p ks [] (omega (arith, refer_few e.symbol s.depth_left s.place)) (Some (frame_of continuation.AfterBackref s.in_value s.letter s.depth_left j))
-      (shut_trace e.output e.symbol e.form closed s.depth_left k v s.lifetimes s.place (Target a j) r
-      ∙ (ap (λ (z : Bool). with_looks ks (none_open_if closed (led e.output e.symbol e.form z s.depth_left k v s.lifetimes (Target a j)))) q
-      ∙ (ap (with_looks ks) (shut_after closed (of e.form true (level_of e.symbol e.form.fold_arguments (levels e.symbol e.form.fold_arguments (s.depth_left - 1)) true k v s.lifetimes a)) j)
-      ∙ (ap (λ (h : Trace). with_looks ks (and_then h (λ i o. empty_trace (Some j) o))) (sym (unit.same (s.depth_left - 1) a))
-      ∙ (ap (λ (z : Bool). with_looks ks (and_then (trace_at e.symbol e.form z p s.in_value s.letter (s.depth_left - 1) s.lifetimes (Some a) false) (λ i o. empty_trace (Some j) o))) (sym q)
-      ∙ rw can_step.no_pending_text refl)))))
-      w (rw append-nil within_budget) (omega arith) (omega (arith, within_budget.within, refer_short e.symbol s.depth_left s.place)) (omega (arith, ref_paid e.output e.symbol e.form s.depth_left a j s.place r, unit.light, way_light p)) (omega arith) (omega (arith, d, unit.low (s.depth_left - 1))) small
+      follows_on p ks (omega (arith, refer_few e.symbol s.depth_left s.place)) (Some (frame_of continuation.AfterBackref s.in_value s.letter s.depth_left j))
+      (shown_trace e.output e.symbol e.form s closed k v a j r q
+      ∙ (ap (λ (h : Trace). with_looks ks (with_reference true h)) (shut_after closed (of e.form true (level_of e.symbol e.form.fold_arguments (levels e.symbol e.form.fold_arguments (s.depth_left - 1)) true k v s.lifetimes a)) j)
+      ∙ (ap (λ (h : Trace). with_looks ks (with_reference true (and_then h (λ i o. empty_trace (Some j) o)))) (sym (unit.same (s.depth_left - 1) a))
+      ∙ ap (λ (z : Bool). with_looks ks (with_reference z (and_then (trace_at e.symbol e.form z p s.in_value s.letter (s.depth_left - 1) s.lifetimes (Some a) false) (λ i o. empty_trace (Some j) o)))) (sym q))))
+      put (λ _. ready) can_step.no_pending_text
+      w within_budget (omega (arith, within_budget.within, refer_short e.symbol s.depth_left s.place)) (omega (arith, ref_paid e.output e.symbol e.form s.depth_left a j s.place r, unit.light, way_light p)) (omega arith) (omega (arith, d, unit.low (s.depth_left - 1))) small
       (unit.fits (s.depth_left - 1) (omega (arith, can_step.fits, d))) (λ h. absurd (false≢true (sym h ∙ q)))
+
+  -- no further reference may be followed
+  pub target_refused : {t : Machine V} {u : State} {w : V} {n : ℕ} {f : SinkRefused} (closed : Bool) (k : Kind) (v : Bool) (a j : ℕ) → Target a j ≡ (read_backref e.symbol t.state.depth_left t.state.place).refers
+      → LooksWithin t.looks (read_backref e.symbol t.state.depth_left t.state.place).costs n → e.output.is_printed ≡ true → e.output.follows t.output (Err f) w
+      → Performs e t (target_part e closed k v t.state) (Err Sink) (record t { state = u; output = w; looks = n })
+  target_refused {t} closed k v a j r within_budget q put =
+      let s = t.state in
+      let ks = (read_backref e.symbol s.depth_left s.place).costs in
+      let rest = none_open_if closed (and_then (of e.form true (level_of e.symbol e.form.fold_arguments (levels e.symbol e.form.fold_arguments (s.depth_left - 1)) true k v s.lifetimes a)) (λ i o. empty_trace (Some j) o)) in
+      follows_no_more ks (omega (arith, refer_few e.symbol s.depth_left s.place)) rest
+      (shown_trace e.output e.symbol e.form s closed k v a j r q ∙ ap (λ (z : Bool). with_looks ks (with_reference z rest)) (sym q))
+      put (λ h. absurd (false≢true (sym h ∙ q))) within_budget (omega (arith, within_budget.within, refer_short e.symbol s.depth_left s.place))
 
   -- after the reference
   pub continues_after : {t : Machine V} → t.state.pending_text ≡ None → PerformsAt e continuation.AfterBackref t (Ok continuation.End) (record t { state = record t.state { place = Some t.state.lifetimes } })

@@ -16,7 +16,7 @@ pub mod PatternSteps
 pub mod PrintLoop
 pub mod BackrefSteps
 pub mod LoopLemmas
-pub mod ImplPathSteps
+pub mod SkipSteps
 pub mod StepRules
 pub mod TaggedConstantSteps
 pub mod FixedTextSteps

@@ -5,17 +5,16 @@ use Rattle.std.proofs.lemmas.List.{append-nil}
 use Rattle.demangle_v0_grammar.specs.Items.{Text}
 use Rattle.demangle_v0_grammar.specs.LookTotals.{total}
 use Rattle.demangle_v0_grammar.specs.LookTotals.{allowed_in}
-use Rattle.demangle_v0_grammar.specs.Traces.{Event, Trace, empty_trace, and_then, with_looks, with_texts, looks_then, texts_then, context_at}
+use Rattle.demangle_v0_grammar.specs.Traces.{Event, Trace, empty_trace, and_then, with_looks, with_reference, with_texts, looks_then, reference_if, texts_then, context_at}
 use Rattle.demangle_v0_tokens.specs.Texts.{text}
 use Rattle.demangle_v0_tokens.specs.Tokens.{texts_of}
-use Rattle.demangle_v0_tokens.specs.declared.token.Token.{Token}
 use Rattle.demangle_v0_tokens.specs.declared.token.Token.TheVariants.{Fixed}
 use Rattle.demangle_v0.specs.Frames as heights
 use Rattle.demangle_v0_grammar.specs.Reading.{Form, Place}
 use Rattle.demangle_v0_grammar.proofs.Failed.{failed}
 use Rattle.demangle_v0.specs.Measure.{most_frames, weight_left, weight_at, weight_of, weights, height_at, height_of, count_of, FitsFrame, Fits, is_inner, IsInner, AllInner}
-use Rattle.demangle_v0.specs.Traces.{Action, allows_looks, puts, with_actions, action_looks, pending_texts, pushed_on, then_frame, trace_of_frame, trace_at, trace_of_state, trace_of_stack, remaining_trace}
-use Rattle.demangle_v0.specs.Steps.{Env, StepPart, Machine, Emits, emitted_texts, Continued, Stopped, KeepsFrames, PerformsAt}
+use Rattle.demangle_v0.specs.Traces.{Action, allows_looks, goes_back, puts, with_actions, action_looks, pending_texts, pushed_on, then_frame, trace_of_frame, trace_at, trace_of_state, trace_of_stack, remaining_trace}
+use Rattle.demangle_v0.specs.Steps.{Env, StepPart, Machine, Emission, gives, refers_on, after_emission, Emits, Continued, Stopped, KeepsFrames, PerformsAt}
 use Rattle.demangle_v0.specs.Continuations.{items_at, bindings_left}
 use Rattle.demangle_v0.specs.Loops.{FlushesText, without_pending_text, StepDone, ResumesAt, stays, pops, frame_height, AllFit, Valid, Emitted, trace_left, RanSteps, StoppedAfter, Reads, first_looks}
 use Rattle.demangle_sink.specs.declared.SinkRefused.{SinkRefused}
@@ -50,31 +49,61 @@ err_ok e z = cc
 some_none : (m : FixedText) → Some m ≡ None → ⊥
 some_none m z = cc
 
+allowed_said : (out : Bool) (ts : List Text) (xs : List Event) → allowed_in (texts_then out ts xs) ≡ allowed_in xs
+allowed_said out [] xs = refl
+allowed_said true (t ∷ ts) xs = allowed_said true ts xs
+allowed_said false (t ∷ ts) xs = allowed_said false ts xs
+
+allowed_reference : (out : Bool) (xs : List Event) → allowed_in (reference_if out xs) ≡ allowed_in xs
+allowed_reference true xs = refl
+allowed_reference false xs = refl
+
+pub reference_then : (out : Bool) (h : Trace) (k : Place → Bool → Trace) → and_then (with_reference out h) k ≡ with_reference out (and_then h k)
+reference_then true h k = refl
+reference_then false h k = refl
+
 module _ {V : Type 0} (e : Env V) where
   -- the actions of a step, in order
-  abbrev pub bits_of : List ℕ → Option Token → List ℕ → List Action
+  abbrev pub bits_of : List ℕ → Option Emission → List ℕ → List Action
   bits_of prefix None back = allows_looks prefix ∷ allows_looks back ∷ []
-  bits_of prefix (Some s) back = allows_looks prefix ∷ puts (texts_of e.symbol e.form s) ∷ allows_looks back ∷ []
+  bits_of prefix (Some (gives s)) back = allows_looks prefix ∷ puts (texts_of e.symbol e.form s) ∷ allows_looks back ∷ []
+  bits_of prefix (Some refers_on) back = allows_looks prefix ∷ goes_back ∷ allows_looks back ∷ []
 
-  abbrev taken : List ℕ → Option Token → Option FixedText → List ℕ → Trace → Trace
-  taken prefix emitted m back h = with_looks prefix (with_texts e.output.is_printed (emitted_texts e emitted) (with_texts e.output.is_printed (pending_texts m) (with_looks back h)))
+  abbrev taken : List ℕ → Option Emission → Option FixedText → List ℕ → Trace → Trace
+  taken prefix emitted m back h = with_looks prefix (after_emission e emitted (with_texts e.output.is_printed (pending_texts m) (with_looks back h)))
 
-  bits_trace : (prefix : List ℕ) (emitted : Option Token) (back : List ℕ) (h : Trace) → with_actions e.output.is_printed (bits_of prefix emitted back) h ≡ taken prefix emitted None back h
+  bits_trace : (prefix : List ℕ) (emitted : Option Emission) (back : List ℕ) (h : Trace) → with_actions e.output.is_printed (bits_of prefix emitted back) h ≡ taken prefix emitted None back h
   bits_trace prefix None back h = refl
-  bits_trace prefix (Some s) back h = refl
+  bits_trace prefix (Some (gives s)) back h = refl
+  bits_trace prefix (Some refers_on) back h = refl
 
-  pub bits_total : (prefix : List ℕ) (emitted : Option Token) (back : List ℕ) → action_looks (bits_of prefix emitted back) ≡ total prefix + total back
+  pub bits_total : (prefix : List ℕ) (emitted : Option Emission) (back : List ℕ) → action_looks (bits_of prefix emitted back) ≡ total prefix + total back
   bits_total prefix None back = omega arith
-  bits_total prefix (Some s) back = omega arith
+  bits_total prefix (Some (gives s)) back = omega arith
+  bits_total prefix (Some refers_on) back = omega arith
 
-  bits_emitted : (v w : V) (prefix : List ℕ) (emitted : Option Token) (back : List ℕ) → Emits e emitted v w → Emitted e (bits_of prefix emitted back) v w
+  bits_emitted : (v w : V) (prefix : List ℕ) (emitted : Option Emission) (back : List ℕ) → Emits e emitted v w → Emitted e (bits_of prefix emitted back) v w
   bits_emitted v w prefix None back t = t
-  bits_emitted v w prefix (Some s) back t = (w, t, refl)
+  bits_emitted v w prefix (Some (gives s)) back t = (w, t, refl)
+  bits_emitted v w prefix (Some refers_on) back t = (w, t, refl)
+
+  emission_place : (x : Emission) (h : Trace) → (after_emission e (Some x) h).place ≡ h.place
+  emission_place (gives s) h = refl
+  emission_place refers_on h = refl
+
+  emission_allowed : (x : Emission) (h : Trace) → allowed_in (after_emission e (Some x) h).events ≡ allowed_in h.events
+  emission_allowed (gives s) h = allowed_said e.output.is_printed (texts_of e.symbol e.form s) h.events
+  emission_allowed refers_on h = allowed_reference e.output.is_printed h.events
+
+  emission_then : (x : Emission) (h : Trace) (k : Place → Bool → Trace) → and_then (after_emission e (Some x) h) k ≡ after_emission e (Some x) (and_then h k)
+  emission_then (gives s) h k = handing_then e.output.is_printed (texts_of e.symbol e.form s) h k
+  emission_then refers_on h k = reference_then e.output.is_printed h k
 
   emitted_append : (u v w : V) (xs ys : List Action) → Emitted e xs u v → Emitted e ys v w → Emitted e (xs ++ ys) u w
   emitted_append u v w [] ys h k = subst (λ (z : V). Emitted e ys z w) (sym h) k
   emitted_append u v w (allows_looks n ∷ xs) ys h k = emitted_append u v w xs ys h k
   emitted_append u v w (puts ts ∷ xs) ys h k = (h.0, h.1, emitted_append h.0 v w xs ys h.2 k)
+  emitted_append u v w (goes_back ∷ xs) ys h k = (h.0, h.1, emitted_append h.0 v w xs ys h.2 k)
 
 -- the trace after a step
 abbrev gone : {V : Type 0} → Env V → Option Frame → Continuation → State → Trace
@@ -108,15 +137,15 @@ module _ {V : Type 0} {e : Env V} where
   }
   put_way (Some m) c d (inr z) p l = absurd (some_none m (c ∙ z))
   put_way {t} {u} {q} {part} {x} (Some m) c d (inl z) p l =
-      let same : t.output ≡ u.output = subst (λ (y : Option Token). Emits e y t.output u.output) z d.emits in
+      let same : t.output ≡ u.output = subst (λ (y : Option Emission). Emits e y t.output u.output) z d.emits in
       record {
         prefix = d.prefix;
-        emitted = Some (Fixed m);
+        emitted = Some (gives (Fixed m));
         back = d.back;
         pushed = d.pushed;
         emits = subst (λ (y : V). e.output.prints y (text m ∷ []) (Ok tt) x) (sym same) p.0;
         one = inr refl;
-        reads = d.reads ∙ (ap (λ (y : Option Token). taken e d.prefix y u.state.pending_text d.back (gone e d.pushed q u.state)) z ∙ ap (λ (y : Option FixedText). taken e d.prefix None y d.back (gone e d.pushed q u.state)) (sym c));
+        reads = d.reads ∙ (ap (λ (y : Option Emission). taken e d.prefix y u.state.pending_text d.back (gone e d.pushed q u.state)) z ∙ ap (λ (y : Option FixedText). taken e d.prefix None y d.back (gone e d.pushed q u.state)) (sym c));
         is_stack = d.is_stack;
         primitive_count = d.primitive_count;
         paid_looks = omega (arith, l, d.paid_looks);
@@ -139,14 +168,14 @@ module _ {V : Type 0} {e : Env V} where
   text_refused {f = f} None c d o p l = absurd (err_ok f p.0)
   text_refused (Some m) c d (inr o) p l = absurd (some_none m (c ∙ o))
   text_refused {t} {u} {q} {x = x} {f = f} (Some m) c d (inl o) p l =
-      let same : t.output ≡ u.output = subst (λ (y : Option Token). Emits e y t.output u.output) o d.emits in
+      let same : t.output ≡ u.output = subst (λ (y : Option Emission). Emits e y t.output u.output) o d.emits in
       record {
         prefix = d.prefix;
-        emitted = Fixed m;
+        emitted = gives (Fixed m);
         rest = with_looks d.back (gone e d.pushed q u.state);
         rejection = f;
         prints = subst (λ (y : V). e.output.prints y (text m ∷ []) (Err f) x) (sym same) p.0;
-        reads = d.reads ∙ (ap (λ (y : Option Token). taken e d.prefix y u.state.pending_text d.back (gone e d.pushed q u.state)) o ∙ ap (λ (y : Option FixedText). taken e d.prefix None y d.back (gone e d.pushed q u.state)) (sym c));
+        reads = d.reads ∙ (ap (λ (y : Option Emission). taken e d.prefix y u.state.pending_text d.back (gone e d.pushed q u.state)) o ∙ ap (λ (y : Option FixedText). taken e d.prefix None y d.back (gone e d.pushed q u.state)) (sym c));
         primitive_count = omega (arith, d.primitive_count);
         paid_looks = omega (arith, l, d.looks_at_refusal);
         exact = λ z. absurd (false≢true (p.1 z));
@@ -175,7 +204,7 @@ module _ {V : Type 0} {e : Env V} where
     steps = (
       record {
         prefix = d.prefix;
-        emitted = Fixed m;
+        emitted = gives (Fixed m);
         rest = empty_trace None false;
         rejection = f;
         prints = subst (λ (y : V). e.output.prints y (text m ∷ []) (Err f) x) (sym d.emits) put;
@@ -209,11 +238,7 @@ pub bits_then : (out : Bool) (bits : List Action) (h : Trace) (k : Place → Boo
 bits_then out [] h k = refl
 bits_then out (allows_looks ks ∷ bits) h k = allowing_then ks (with_actions out bits h) k ∙ ap (with_looks ks) (bits_then out bits h k)
 bits_then out (puts ts ∷ bits) h k = handing_then out ts (with_actions out bits h) k ∙ ap (with_texts out ts) (bits_then out bits h k)
-
-allowed_said : (out : Bool) (ts : List Text) (xs : List Event) → allowed_in (texts_then out ts xs) ≡ allowed_in xs
-allowed_said out [] xs = refl
-allowed_said true (t ∷ ts) xs = allowed_said true ts xs
-allowed_said false (t ∷ ts) xs = allowed_said false ts xs
+bits_then out (goes_back ∷ bits) h k = reference_then out (with_actions out bits h) k ∙ ap (with_reference out) (bits_then out bits h k)
 
 allowed_more : (ks : List ℕ) (xs : List Event) → allowed_in (looks_then ks xs) ≡ total ks + allowed_in xs
 allowed_more [] xs = omega arith
@@ -223,11 +248,13 @@ pub allowed_bits : (out : Bool) (bits : List Action) (h : Trace) → allowed_in 
 allowed_bits out [] h = omega arith
 allowed_bits out (allows_looks ks ∷ bits) h = omega (arith, allowed_more ks (with_actions out bits h).events, allowed_bits out bits h)
 allowed_bits out (puts ts ∷ bits) h = allowed_said out ts (with_actions out bits h).events ∙ allowed_bits out bits h
+allowed_bits out (goes_back ∷ bits) h = allowed_reference out (with_actions out bits h).events ∙ allowed_bits out bits h
 
 pub place_bits : (out : Bool) (bits : List Action) (h : Trace) → (with_actions out bits h).place ≡ h.place
 place_bits out [] h = refl
 place_bits out (allows_looks ks ∷ bits) h = place_bits out bits h
 place_bits out (puts ts ∷ bits) h = place_bits out bits h
+place_bits out (goes_back ∷ bits) h = place_bits out bits h
 
 -- no action is left
 
@@ -374,15 +401,15 @@ module _ {V : Type 0} {e : Env V} where
   abbrev pub prefix_of : {p : Continuation} {t : Machine V} {v : V} {n : ℕ} → StoppedAfter e p t v n → List Action
   prefix_of d = d.ran.bits ++ allows_looks d.halts.prefix ∷ []
 
-  pub broke_trace : {p : Continuation} {t : Machine V} {v : V} {n : ℕ} (d : StoppedAfter e p t v n) → trace_left e p t ≡ with_actions e.output.is_printed (prefix_of d) (with_texts e.output.is_printed (texts_of e.symbol e.form d.halts.emitted) (after_broke d))
+  pub broke_trace : {p : Continuation} {t : Machine V} {v : V} {n : ℕ} (d : StoppedAfter e p t v n) → trace_left e p t ≡ with_actions e.output.is_printed (prefix_of d) (after_emission e (Some d.halts.emitted) (after_broke d))
   broke_trace d =
       let out = e.output.is_printed in
-      let texts = texts_of e.symbol e.form d.halts.emitted in
+      let emitted = d.halts.emitted in
       let above = trace_of_stack e.symbol e.form out d.stack in
       let prefix = allows_looks d.halts.prefix ∷ [] in
       d.ran.reads
-      ∙ (ap (with_actions out d.ran.bits) (ap (λ (h : Trace). and_then h above) d.halts.reads ∙ (bits_then out prefix (with_texts out texts d.halts.rest) above ∙ ap (with_actions out prefix) (handing_then out texts d.halts.rest above)))
-      ∙ sym (bits_append out d.ran.bits prefix (with_texts out texts (after_broke d))))
+      ∙ (ap (with_actions out d.ran.bits) (ap (λ (h : Trace). and_then h above) d.halts.reads ∙ (bits_then out prefix (after_emission e (Some emitted) d.halts.rest) above ∙ ap (with_actions out prefix) (emission_then e emitted d.halts.rest above)))
+      ∙ sym (bits_append out d.ran.bits prefix (after_emission e (Some emitted) (after_broke d))))
 
   pub broke_emits : {p : Continuation} {t : Machine V} {v : V} {n : ℕ} (d : StoppedAfter e p t v n) → Emitted e (prefix_of d) t.output d.mid.output
   broke_emits d = emitted_append e _ _ _ d.ran.bits (allows_looks d.halts.prefix ∷ []) d.ran.emits refl
@@ -394,9 +421,8 @@ module _ {V : Type 0} {e : Env V} where
   pub broke_fails : {p : Continuation} {t : Machine V} {v : V} {n : ℕ} → e.output.is_printed ≡ false → (d : StoppedAfter e p t v n) → AllInner d.stack → ((trace_left e p t).place ≡ None) × (n ≤ t.looks + allowed_in (trace_left e p t).events)
   broke_fails without_output d i =
       let out = e.output.is_printed in
-      let texts = texts_of e.symbol e.form d.halts.emitted in
-      let rest = with_texts out texts (after_broke d) in (
-        ap (λ (h : Trace). h.place) (broke_trace d) ∙ (place_bits out (prefix_of d) rest ∙ stack_rest_failed e.symbol e.form out d.stack d.halts.rest.place d.halts.rest.is_bracket_open i (d.halts.fails without_output)),
+      let rest = after_emission e (Some d.halts.emitted) (after_broke d) in (
+        ap (λ (h : Trace). h.place) (broke_trace d) ∙ (place_bits out (prefix_of d) rest ∙ (emission_place e d.halts.emitted (after_broke d) ∙ stack_rest_failed e.symbol e.form out d.stack d.halts.rest.place d.halts.rest.is_bracket_open i (d.halts.fails without_output))),
         omega (
           arith,
           d.same_looks,

@@ -5,24 +5,28 @@ use Rattle.std.proofs.Common.{◌≡◌, ℕ, Bool, true, false, Option, Some, N
 use Rattle.demangle_v0_grammar.specs.Items.{Items}
 use Rattle.demangle_v0_grammar.specs.Reading.{Form}
 use Rattle.demangle_v0_tokens.specs.declared.output.Output.{Ghosts}
-use Rattle.demangle_v0_tokens.specs.declared.token.Token.{Token}
 use Rattle.demangle_sink.specs.declared.SinkRefused.{SinkRefused}
 use Rattle.demangle_v0.specs.Loops.{ValidUnfinished}
-use Rattle.demangle_v0.specs.Parsers.{UnfinishedIsValid, Same, PerformedRest, Performed, Advanced, AdvancedRest, AdvancedWithoutOutput, AdvancedUnfolded, unused_output, checkpoint_of}
-use Rattle.demangle_v0.specs.Steps.{StepResult, Performs, Emits, StepPart, env, machine}
+use Rattle.demangle_v0.specs.Parsers.{UnfinishedIsValid, Same, PerformedRest, Performed, Advanced, AdvancedRest, AdvancedWithoutOutput, AdvancedUnfolded, unused_output, env_of, checkpoint_of}
+use Rattle.demangle_v0.specs.Steps.{StepResult, Performs, Emits, StepPart, Machine, env, machine, Emission, gives, refers_on, Receives}
 use Rattle.demangle_v0.specs.declared.parser.Continuation.{Continuation}
 use Rattle.demangle_v0.specs.declared.parser.State.{State}
 use Rattle.demangle_v0.specs.declared.parser.StepError.{StepError}
 use Rattle.demangle_v0.specs.declared.parser.StepError.TheVariants.{Sink, Abort}
 use Rattle.demangle_v0.specs.declared.parser.frames.Frame.{Frame}
 use Rattle.demangle_v0.specs.declared.parser.machine.Parser.{Parser}
-use Rattle.demangle_v0.specs.declared.printer.Unfinished.{Unfinished}
+use Rattle.demangle_v0.specs.declared.parser.steps.Unfinished.{Unfinished}
 
 -- A continuation that emits nothing has the same effect for every output.
 
-none_emitted : (p : Bool) (b : List ℕ) (h : Form) (o : Option Token) → Emits (env (unused_output p) b h) o tt tt → o ≡ None
+none_emitted : (p : Bool) (b : List ℕ) (h : Form) (o : Option Emission) → Emits (env (unused_output p) b h) o tt tt → o ≡ None
 none_emitted p b h None k = refl
-none_emitted p b h (Some s) k = absurd k
+none_emitted p b h (Some (gives s)) k = absurd k
+none_emitted p b h (Some refers_on) k = absurd k
+
+none_received : (p : Bool) (b : List ℕ) (h : Form) (x : Emission) (r : Result (Unit {0}) SinkRefused) → Receives (env (unused_output p) b h) x tt r tt → ⊥
+none_received p b h (gives s) r k = k
+none_received p b h refers_on r k = k
 
 comes_trace : {V : Type 0} (output : Ghosts V) (b : List ℕ) (h : Form) (v : V) (part : StepPart) (s t : State) (stack now : List Frame) (n m : ℕ) (r : Result Continuation StepError)
     → StepResult (env (unused_output output.is_printed) b h) part (machine s stack tt n) r (machine t now tt m) → StepResult (env output b h) part (machine s stack v n) r (machine t now v m)
@@ -55,7 +59,7 @@ comes_trace output b h v part s t stack now n m (Err (Abort x)) d = record {
   paid_looks = d.paid_looks;
   lighter = d.lighter;
 }
-comes_trace output b h v part s t stack now n m (Err Sink) d = absurd d.0.prints
+comes_trace output b h v part s t stack now n m (Err Sink) d = absurd (none_received output.is_printed b h d.0.emitted _ d.0.prints)
 
 does_trace : {V : Type 0} (output : Ghosts V) (b : List ℕ) (h : Form) (v : V) (part : StepPart) (s t : State) (stack now : List Frame) (n m : ℕ) (r : Result Continuation StepError)
     → Performs (env (unused_output output.is_printed) b h) (machine s stack tt n) part r (machine t now tt m) → Performs (env output b h) (machine s stack v n) part r (machine t now v m)

@@ -12,16 +12,16 @@ use Rattle.demangle_v0_grammar.proofs.LooksLaw.{HiddenCosts, hidden_path_costs, 
 use Rattle.demangle_v0_grammar.proofs.TableCost.{arguments_fit, trait_arguments_fit}
 use Rattle.demangle_v0.specs.Skips.{is_skipped}
 use Rattle.demangle_v0.specs.Traces.{trace_at}
-use Rattle.demangle_v0.specs.Loops.{impl_path_trace, ResumesAt, pops, stays}
+use Rattle.demangle_v0.specs.Loops.{part_trace, ResumesAt, pops, stays}
 use Rattle.demangle_v0.specs.Parsers.{left_at, SkipsOver, SkipsFull}
 use Rattle.demangle_v0.specs.declared.parser.Continuation.{Continuation}
 use Rattle.demangle_v0.specs.declared.parser.Continuation.TheVariants as continuation
 use Rattle.demangle_v0.specs.declared.parser.State.{State}
 use Rattle.demangle_v0.specs.declared.parser.frames.Frame.{Frame}
 use Rattle.demangle_v0.specs.declared.parser.machine.Parser.{Parser}
-use Rattle.demangle_v0.specs.declared.printer.Unfinished.{Unfinished}
+use Rattle.demangle_v0.specs.declared.parser.steps.Unfinished.{Unfinished}
 use Rattle.demangle_v0.proofs.LoopLemmas.{ran_looks}
-use Rattle.demangle_v0.proofs.ImplPathSteps.{own_is, read_own}
+use Rattle.demangle_v0.proofs.SkipSteps.{own_is, read_own}
 
 own_costs : (b : List ℕ) (form : Form) (p : Continuation) (c left m i : ℕ) (o : Bool) → is_skipped form p ≡ true → i ≤ length b
     → HiddenCosts (length b) i 7 (allowed_in (read_own b form p c left m (Some i) o).events) (read_own b form p c left m (Some i) o).place
@@ -39,7 +39,7 @@ own_costs b form continuation.FirstTraitArgument c left m i o k l =
 own_costs b form p c left m i o k l = absurd (false≢true k)
 
 pub skip_costs : (b : List ℕ) (form : Form) (p : Continuation) (s : State) (i : ℕ) → is_skipped form p ≡ true → s.place ≡ Some i → i ≤ length b
-    → HiddenCosts (length b) i 7 (allowed_in (impl_path_trace b form p s).events) (impl_path_trace b form p s).place
+    → HiddenCosts (length b) i 7 (allowed_in (part_trace b form p s).events) (part_trace b form p s).place
 skip_costs b form p s i k e l =
     subst (λ (h : Trace). HiddenCosts (length b) i 7 (allowed_in h.events) h.place) (sym (own_is b form p s)) (rw e (own_costs b form p s.letter s.depth_left s.lifetimes i s.is_bracket_open k l))
 
@@ -50,19 +50,19 @@ hidden_most n i c (Some j) l h = omega (arith, h.0, h.1, h.2)
 module _ (m : Parser) (k : Parser) (i : ℕ) (skipped : is_skipped m.source.form m.continuation ≡ true) (e : m.state.place ≡ Some i) (l : i ≤ length m.source.symbol.now) where
   pub over_most : SkipsOver m k → k.looks ≤ m.looks + 32 * (length m.source.symbol.now + 1) + 7
   over_most z =
-      let h = impl_path_trace m.source.symbol.now m.source.form m.continuation m.state in
+      let h = part_trace m.source.symbol.now m.source.form m.continuation m.state in
       omega (arith, z.paid_looks, hidden_most (length m.source.symbol.now) i (allowed_in h.events) h.place l (skip_costs m.source.symbol.now m.source.form m.continuation m.state i skipped e l))
 
   pub full_most : (x : Unfinished) → SkipsFull m x k → k.looks ≤ m.looks + 32 * (length m.source.symbol.now + 1) + 7
   full_most x z =
-      let h = impl_path_trace m.source.symbol.now m.source.form m.continuation m.state in
+      let h = part_trace m.source.symbol.now m.source.form m.continuation m.state in
       omega (arith, ran_looks z.reads.ran, hidden_most (length m.source.symbol.now) i (allowed_in h.events) h.place l (skip_costs m.source.symbol.now m.source.form m.continuation m.state i skipped e l))
 
   -- the part ended at place j
   pub over_paced : (j : ℕ) → SkipsOver m k → k.state.place ≡ Some j → (i ≤ j) × (k.looks + 4 * left_at (length m.source.symbol.now) k.state.place ≤ m.looks + 28 * (j - i) + 4 * left_at (length m.source.symbol.now) m.state.place + 7)
   over_paced j z f =
       let n = length m.source.symbol.now in
-      let h = impl_path_trace m.source.symbol.now m.source.form m.continuation m.state in
+      let h = part_trace m.source.symbol.now m.source.form m.continuation m.state in
       let at : h.place ≡ Some j = z.ends ∙ (sym (ap (λ (s : State). s.place) z.state) ∙ f) in
       let c : HiddenCosts n i 7 (allowed_in h.events) (Some j) = subst (HiddenCosts n i 7 (allowed_in h.events)) at (skip_costs m.source.symbol.now m.source.form m.continuation m.state i skipped e l) in
       (omega (arith, c.0), omega (arith, z.paid_looks, c.0, c.1, c.2, ap (left_at n) e, ap (left_at n) f))

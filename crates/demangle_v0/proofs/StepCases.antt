@@ -5,13 +5,13 @@ use Rattle.std.proofs.lemmas.List.{append-nil, length-append}
 use Rattle.std.proofs.Common.{inl, inr, ◌≡◌, ℕ, ◌+◌, ◌≤◌, length, Bool, true, false, Option, Some, None, List, [], ◌∷◌, ◌++◌, Result, Ok, Err, IsOk, refl, arith, sym, ap, ◌∙◌}
 use Rattle.demangle_v0_grammar.specs.Items.{Items, Kind, child, done}
 use Rattle.demangle_v0_grammar.specs.LookTotals.{total}
-use Rattle.demangle_v0_grammar.specs.Traces.{Trace, of, empty_trace, and_then, with_looks, with_texts, context_at}
+use Rattle.demangle_v0_grammar.specs.Traces.{Trace, of, empty_trace, and_then, with_looks, with_texts, context_at, with_reference}
 use Rattle.demangle_v0_tokens.specs.Tokens.{texts_of, TokenSpec, token_spec}
 use Rattle.demangle_v0_tokens.specs.Texts.{text, token_items}
 use Rattle.demangle_v0_grammar.specs.Reading.{Place, unit_outcome, parse}
 use Rattle.demangle_v0.specs.Traces.{pending_texts, then_frame, trace_of_frame, pushed_on, trace_of_state, trace_at, with_closed_bracket}
 use Rattle.demangle_v0.specs.Measure.{weight_left, weight_at, weight_of, is_inner, height_of, count_of, FitsFrame, IsInner, Fits, height_at}
-use Rattle.demangle_v0.specs.Steps.{Machine, Env, StepPart, part, StepResult, Continued, Performs, LooksWithin, step_looks_bound, PerformsRest}
+use Rattle.demangle_v0.specs.Steps.{Machine, Env, StepPart, part, StepResult, Continued, Performs, LooksWithin, step_looks_bound, PerformsRest, gives, refers_on}
 use Rattle.demangle_v0.specs.Continuations.{list_costs}
 use Rattle.demangle_sink.specs.declared.SinkRefused.{SinkRefused}
 use Rattle.demangle_v0_tokens.specs.declared.fixed_texts.FixedText.{FixedText}
@@ -190,7 +190,7 @@ module _ {V : Type 0} {e : Env V} where
   unfolding then_frame
   advanced_by to prefix c x r q k p w z f = record {
     prefix = prefix;
-    emitted = Some x;
+    emitted = Some (gives x);
     back = [];
     pushed = None;
     emits = q;
@@ -220,7 +220,57 @@ module _ {V : Type 0} {e : Env V} where
       → (e.output.is_printed ≡ false → rest.place ≡ None) → LooksWithin t.looks prefix n → n ≤ t.looks + step_looks_bound e.symbol t.state.place
       → Performs e t (part words h weight high) (Err Sink) (record t { state = s; output = v; looks = n })
   halts {t} prefix c x rest {r = f} r q i p short = record {
-    comes = (record { prefix = prefix; emitted = x; rest = rest; rejection = f; prints = q; reads = r; primitive_count = c; paid_looks = omega (arith, p.within); exact = λ _. p.within; fails = i }, kept_none t.stack);
+    comes = (record { prefix = prefix; emitted = gives x; rest = rest; rejection = f; prints = q; reads = r; primitive_count = c; paid_looks = omega (arith, p.within); exact = λ _. p.within; fails = i }, kept_none t.stack);
+    grows = p.grows;
+    own_looks = short;
+    ready = λ _ k. absurd (false≢true k);
+    if_ok = λ _ m k. absurd (no_fault m k);
+  }
+
+  -- A reference is followed.
+  pub follows_on : {t : Machine V} {h : Trace} {words weight high : ℕ} (to : Continuation) (prefix : List ℕ) → length prefix ≤ words → (pushed : Option Frame) {s : State} {stack : List Frame} {v : V} {n : ℕ}
+      → h ≡ with_looks prefix (with_reference e.output.is_printed (then_frame e.symbol e.form e.output.is_printed pushed (trace_of_state e.symbol e.form e.output.is_printed to s)))
+      → e.output.follows t.output (Ok tt) v → (e.output.ready t.output → e.output.ready v) → s.pending_text ≡ None
+      → stack ≡ pushed_on t.stack pushed → LooksWithin t.looks prefix n → n ≤ t.looks + step_looks_bound e.symbol t.state.place
+      → weight_left to + weight_of pushed + 1 ≤ weight + 100 * total prefix
+      → height_of pushed ≤ high → height_at to s.depth_left + count_of pushed ≤ high → FitsFrame pushed → Fits to s.depth_left s.lifetimes → (e.output.is_printed ≡ false → IsInner pushed)
+      → Performs e t (part words h weight high) (Ok to) (record t { state = s; stack = stack; output = v; looks = n })
+  follows_on to prefix c pushed r put still k q p short w x y f g i = record {
+    comes = record {
+      prefix = prefix;
+      emitted = Some refers_on;
+      back = [];
+      pushed = pushed;
+      emits = put;
+      one = inr k;
+      reads = rw k r;
+      is_stack = q;
+      primitive_count = omega (arith, c);
+      paid_looks = omega (arith, p.within);
+      looks_at_refusal = omega (arith, p.within);
+      lighter = omega (arith, w);
+      outer_height = x;
+      inner_height = y;
+      outer_fits = f;
+      inner_fits = g;
+      no_output = i;
+    };
+    grows = p.grows;
+    own_looks = short;
+    ready = λ z _. still z;
+    if_ok = λ z m e. absurd (ok_fault m e);
+  }
+    where
+      ok_fault : (m : FixedText) → Ok to ≡ Err (Abort m) → ⊥
+      ok_fault m z = cc
+
+  -- No further reference may be followed.
+  pub follows_no_more : {t : Machine V} {h : Trace} {words weight high : ℕ} (prefix : List ℕ) → length prefix ≤ words → (rest : Trace) {s : State} {v : V} {n : ℕ} {r : SinkRefused}
+      → h ≡ with_looks prefix (with_reference e.output.is_printed rest) → e.output.follows t.output (Err r) v
+      → (e.output.is_printed ≡ false → rest.place ≡ None) → LooksWithin t.looks prefix n → n ≤ t.looks + step_looks_bound e.symbol t.state.place
+      → Performs e t (part words h weight high) (Err Sink) (record t { state = s; output = v; looks = n })
+  follows_no_more {t} prefix c rest {r = f} r q i p short = record {
+    comes = (record { prefix = prefix; emitted = refers_on; rest = rest; rejection = f; prints = q; reads = r; primitive_count = c; paid_looks = omega (arith, p.within); exact = λ _. p.within; fails = i }, kept_none t.stack);
     grows = p.grows;
     own_looks = short;
     ready = λ _ k. absurd (false≢true k);

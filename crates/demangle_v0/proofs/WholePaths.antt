@@ -4,7 +4,7 @@ use Rattle.std.proofs.Common.{inl, inr, ◌⊎◌, ◌≡◌, ℕ, ◌+◌, ◌�
 use Rattle.demangle_v0_grammar.specs.ValidationLooks.{looks_in}
 use Rattle.demangle_v0_grammar.specs.Traces.{Event, Trace, allows, events}
 use Rattle.demangle_v0_grammar.specs.Items.{a_path}
-use Rattle.demangle_v0_grammar.specs.Reading.{Form, Tree, nothing, piece, plain_piece, node, looked, unprinted, max_depth, unit_end, read_at}
+use Rattle.demangle_v0_grammar.specs.Reading.{Form, Tree, nothing, piece, plain_piece, node, looked, unprinted, referred, max_depth, unit_end, read_at}
 use Rattle.demangle_v0_grammar.specs.LookTotals.{allowed_in}
 use Rattle.demangle_v0.specs.Measure.{most_frames, AllInner}
 use Rattle.demangle_v0.specs.Steps.{Machine, machine}
@@ -58,6 +58,7 @@ silent_events false (node inside rest) =
 silent_events false (looked k rest) = ap (λ (xs : List Event). allows k ∷ xs) (silent_events false rest)
 silent_events false (unprinted inside rest) =
     ap (λ xs. xs ++ events false false rest) (silent_events false inside) ∙ ap (λ xs. events true false inside ++ xs) (silent_events false rest)
+silent_events false (referred t j end inside) = silent_events false inside
 silent_events false _ = refl
 
 pub first_allowed : (b : List ℕ) (form : Form) (i : ℕ) → form.fold_arguments ≡ false → allowed_in (remaining_trace b form false continuation.Path (first_state i) []).events ≡ looks_in (read_at b false false a_path i 0 0 true)

@@ -1,9 +1,10 @@
 -- Internal: no public contract cites this.
 -- What is known of a symbol whose first path was printed before it was validated.
-use Rattle.std.specs.Prelude.{◌≡◌, ℕ, List, Some, None, Ok}
-use Rattle.demangle_v0_grammar.specs.Items.{Text}
-use Rattle.demangle_v0_grammar.specs.Reading.{suffix_place}
-use Rattle.demangle_sink.specs.Limit.{Prints}
+use Rattle.std.specs.Prelude.{◌≡◌, ℕ, List, Some, None, Ok, Result}
+use Rattle.demangle_v0_grammar.specs.Reading.{Form, suffix_place}
+use Rattle.demangle_v0_grammar.specs.References.{path_texts_before, is_path_whole}
+use Rattle.demangle_sink.specs.Limit.{PrintsUpTo}
+use Rattle.demangle_sink.specs.declared.SinkRefused.{SinkRefused}
 use Rattle.demangle_sink.specs.declared.TextSink.{Ghosts as Sinks}
 use Rattle.demangle_sink.specs.declared.limit.SizeLimitedFmtAdapter.{SizeLimitedFmtAdapter}
 use Rattle.demangle_v0.specs.declared.validation.Attempt.{Attempt}
@@ -16,7 +17,11 @@ SuffixOf b (attempt.Read place) = Some place ≡ suffix_place b
 SuffixOf b attempt.NoPath = suffix_place b ≡ None
 SuffixOf b attempt.Unknown = Unit {0}
 
--- if the path was printed, all of its texts
-abbrev pub PrintsIfPrinted : {S : Type 0} → Sinks S → SizeLimitedFmtAdapter S → List Text → Attempt → SizeLimitedFmtAdapter S → Type 0
-PrintsIfPrinted sink v texts (attempt.Printed place) w = Prints sink v texts (Ok tt) w
-PrintsIfPrinted sink v texts _ w = Unit {0}
+-- printing the first path of a symbol returned `result`
+abbrev pub PrintsPath : {S : Type 0} → Sinks S → SizeLimitedFmtAdapter S → List ℕ → Form → Result (Unit {0}) SinkRefused → SizeLimitedFmtAdapter S → Type 0
+PrintsPath sink v symbol form result w = PrintsUpTo sink v (path_texts_before v.references symbol form) (is_path_whole v.references symbol form) result w
+
+-- if the path was printed, all of its texts, and not more references were followed than are allowed
+abbrev pub PrintsIfPrinted : {S : Type 0} → Sinks S → SizeLimitedFmtAdapter S → List ℕ → Form → Attempt → SizeLimitedFmtAdapter S → Type 0
+PrintsIfPrinted sink v symbol form (attempt.Printed place) w = PrintsPath sink v symbol form (Ok tt) w
+PrintsIfPrinted sink v symbol form _ w = Unit {0}

@@ -7,12 +7,12 @@ use Rattle.demangle_v0.specs.Frames as heights
 use Rattle.demangle_v0.specs.Skips.{is_skipped, skipped_continuation, after_skip}
 use Rattle.demangle_v0_tokens.specs.declared.fixed_texts.FixedText.{FixedText}
 use Rattle.demangle_sink.specs.declared.SinkRefused.{SinkRefused}
-use Rattle.demangle_v0.specs.Traces.{Action, allows_looks, puts, with_actions, action_looks, remaining_trace}
+use Rattle.demangle_v0.specs.Traces.{Action, allows_looks, goes_back, puts, with_actions, action_looks, remaining_trace}
 use Rattle.demangle_v0.specs.Steps.{Env, env, whole, Machine, machine, Continued, Stopped, KeepsFrames, resumed_of}
 use Rattle.demangle_v0.specs.Measure.{AllInner, Fits, height_at, most_frames}
 use Rattle.demangle_v0_grammar.specs.LookTotals.{allowed_in}
 use Rattle.demangle_v0_grammar.specs.Reading.{Form, Place, max_depth}
-use Rattle.demangle_sink.specs.Limit.{Prints, Ready}
+use Rattle.demangle_sink.specs.Limit.{Follows, Prints, Ready}
 use Rattle.demangle_sink.specs.declared.TextSink.{Ghosts as Sinks}
 use Rattle.demangle_sink.specs.declared.limit.SizeLimitedFmtAdapter.{SizeLimitedFmtAdapter}
 use Rattle.demangle_v0.specs.declared.parser.Continuation.{Continuation}
@@ -22,8 +22,8 @@ use Rattle.demangle_v0.specs.declared.parser.State.{State}
 use Rattle.demangle_v0.specs.declared.parser.steps.Checkpoint.{Checkpoint}
 use Rattle.demangle_v0.specs.declared.parser.steps.ReadOutcome.{ReadOutcome}
 use Rattle.demangle_v0.specs.declared.parser.steps.ReadOutcome.TheVariants as halt
-use Rattle.demangle_v0.specs.declared.printer.Unfinished.{Unfinished}
-use Rattle.demangle_v0.specs.declared.printer.Unfinished.TheVariants as left
+use Rattle.demangle_v0.specs.declared.parser.steps.Unfinished.{Unfinished}
+use Rattle.demangle_v0.specs.declared.parser.steps.Unfinished.TheVariants as left
 use Rattle.demangle_v0_tokens.specs.declared.output.Output.{Ghosts}
 use Rattle.demangle_v0_tokens.specs.declared.output.NoOutput.{NoOutput}
 
@@ -90,6 +90,7 @@ abbrev pub Emitted : {V : Type 0} → Env V → List Action → V → V → Type
 Emitted env [] v w = v ≡ w
 Emitted env (allows_looks k ∷ bits) v w = Emitted env bits v w
 Emitted {V = V} env (puts ts ∷ bits) v w = (mid : V) × env.output.prints v ts (Ok tt) mid × Emitted env bits mid w
+Emitted {V = V} env (goes_back ∷ bits) v w = (mid : V) × env.output.follows v (Ok tt) mid × Emitted env bits mid w
 
 -- steps lead from `before` to `after`, and make no more looks than their trace allows
 pub record RanSteps {V : Type 0} (env : Env V) (p : Continuation) (before : Machine V) (q : Continuation) (after : Machine V) : Type 0 where
@@ -98,7 +99,7 @@ pub record RanSteps {V : Type 0} (env : Env V) (p : Continuation) (before : Mach
   pub reads : trace_left env p before ≡ with_actions env.output.is_printed bits (trace_left env q after)
   pub paid_looks : after.looks ≤ before.looks + action_looks bits
 
--- after such steps one more failed: the output rejected a piece, or the parse failed without output
+-- after such steps one more failed: the output rejected a piece or a reference, or the parse failed without output
 pub record StoppedAfter {V : Type 0} (env : Env V) (p : Continuation) (before : Machine V) (output : V) (looks : ℕ) : Type 0 where
   pub at : Continuation
   pub mid : Machine V
@@ -112,7 +113,7 @@ pub record StoppedAfter {V : Type 0} (env : Env V) (p : Continuation) (before : 
 -- A parse without output, above other frames.
 
 abbrev pub no_output_env : List ℕ → Form → Env NoOutput
-no_output_env b form = env (record { is_printed = false; ready = λ v. Unit {0}; prints = λ v texts result w. Unit {0} }) b form
+no_output_env b form = env (record { is_printed = false; ready = λ v. Unit {0}; prints = λ v texts result w. Unit {0}; follows = λ v result w. Unit {0} }) b form
 
 abbrev pub no_output_machine : State → List Frame → ℕ → Machine NoOutput
 no_output_machine s stack n = machine s stack (record {}) n
@@ -135,14 +136,14 @@ pub record ReadDone {V : Type 0} (env : Env V) (below : List Frame) (p : Continu
 -- The part that is read and not printed: an impl path, or folded arguments.
 
 -- the state at its start
-abbrev pub impl_path_state : State → State
-impl_path_state s = record s { in_value = false }
+abbrev pub part_state : State → State
+part_state s = record s { in_value = false }
 
-abbrev pub impl_path_checkpoint : Checkpoint → Checkpoint
-impl_path_checkpoint r = record { continuation = skipped_continuation r.continuation; state = impl_path_state r.state }
+abbrev pub part_checkpoint : Checkpoint → Checkpoint
+part_checkpoint r = record { continuation = skipped_continuation r.continuation; state = part_state r.state }
 
-abbrev pub impl_path_trace : List ℕ → Form → Continuation → State → Trace
-impl_path_trace b form p s = remaining_trace b form false (skipped_continuation p) (impl_path_state s) []
+abbrev pub part_trace : List ℕ → Form → Continuation → State → Trace
+part_trace b form p s = remaining_trace b form false (skipped_continuation p) (part_state s) []
 
 -- the state after it
 abbrev pub state_at : State → Place → State
@@ -152,47 +153,47 @@ state_at s i = record s { place = i }
 pub record Skipped (b : List ℕ) (form : Form) (o : Continuation) (s : State) (below : List Frame) (began : ℕ) (p : Continuation) (t : State) (now : List Frame) (looks : ℕ) : Type 0 where
   pub at : p ≡ after_skip o
   pub place : Place
-  pub ends : (impl_path_trace b form o s).place ≡ place
+  pub ends : (part_trace b form o s).place ≡ place
   pub state : t ≡ state_at s place
   pub is_stack : now ≡ below
-  pub paid_looks : looks ≤ began + allowed_in (impl_path_trace b form o s).events
+  pub paid_looks : looks ≤ began + allowed_in (part_trace b form o s).events
 
 -- the part was read up to `inner`; the count of looks was `began` at its start
-abbrev pub ReadsImplPath : List ℕ → Form → List Frame → Checkpoint → ℕ → Checkpoint → List Frame → ℕ → Type 0
-ReadsImplPath b form below r began inner now looks = Reads (no_output_env b form) below (skipped_continuation r.continuation) (no_output_machine (impl_path_state r.state) [] began) inner.continuation (no_output_machine inner.state now looks)
+abbrev pub ReadsPart : List ℕ → Form → List Frame → Checkpoint → ℕ → Checkpoint → List Frame → ℕ → Type 0
+ReadsPart b form below r began inner now looks = Reads (no_output_env b form) below (skipped_continuation r.continuation) (no_output_machine (part_state r.state) [] began) inner.continuation (no_output_machine inner.state now looks)
 
 -- the same, above a stack of `base` frames
-pub record InImplPath (b : List ℕ) (form : Form) (base : ℕ) (began : ℕ) (inner printing : Checkpoint) (now : List Frame) (looks : ℕ) : Type 0 where
+pub record InPart (b : List ℕ) (form : Form) (base : ℕ) (began : ℕ) (inner printing : Checkpoint) (now : List Frame) (looks : ℕ) : Type 0 where
   pub below : List Frame
   pub height : length below ≡ base
   pub skips : is_skipped form printing.continuation ≡ true
   pub valid : Valid printing.continuation printing.state below
-  pub reads : ReadsImplPath b form below printing began inner now looks
+  pub reads : ReadsPart b form below printing began inner now looks
 
 -- the part at the checkpoint `printing` was read until the stack, of at least `n` frames, was full
-pub record StopsInImplPath (b : List ℕ) (form : Form) (printing : Checkpoint) (below : List Frame) (began : ℕ) (x : Unfinished) (n : ℕ) (inner : Checkpoint) (now : List Frame) (looks : ℕ) : Type 0 where
+pub record StopsInPart (b : List ℕ) (form : Form) (printing : Checkpoint) (below : List Frame) (began : ℕ) (x : Unfinished) (n : ℕ) (inner : Checkpoint) (now : List Frame) (looks : ℕ) : Type 0 where
   pub base : ℕ
-  pub is_left : x ≡ left.ImplPath base printing
+  pub is_left : x ≡ left.Skipping base printing
   pub height : base ≡ length below
-  pub reads : ReadsImplPath b form below printing began inner now looks
+  pub reads : ReadsPart b form below printing began inner now looks
   pub valid : Valid inner.continuation inner.state now
   pub full : n ≤ length now
 
 -- A parse that prints.
 
 abbrev pub printing : {S : Type 0} → Sinks S → List ℕ → Form → Env (SizeLimitedFmtAdapter S)
-printing sink b form = env (record { is_printed = true; ready = λ v. Ready sink v; prints = λ v texts result w. Prints sink v texts result w }) b form
+printing sink b form = env (record { is_printed = true; ready = λ v. Ready sink v; prints = λ v texts result w. Prints sink v texts result w; follows = λ v result w. Follows v result w }) b form
 
 -- printing stopped in an impl path, which was read up to `inner`
-pub record PrintingInImplPath {V : Type 0} (env : Env V) (p : Continuation) (before : Machine V) (base : ℕ) (inner r : Checkpoint) (now : List Frame) (w : V) (looks : ℕ) : Type 0 where
+pub record PrintingInPart {V : Type 0} (env : Env V) (p : Continuation) (before : Machine V) (base : ℕ) (inner r : Checkpoint) (now : List Frame) (w : V) (looks : ℕ) : Type 0 where
   pub began : ℕ
-  pub skips : InImplPath env.symbol env.form base began inner r now looks
+  pub skips : InPart env.symbol env.form base began inner r now looks
   pub ran : RanSteps env p before r.continuation (machine r.state skips.below w began)
 
 abbrev pub PrintCases : {V : Type 0} → Env V → Continuation → Machine V → Result (Option Unfinished) SinkRefused → Checkpoint → List Frame → V → ℕ → Type 0
 PrintCases env p before (Ok None) r now w looks = RanSteps env p before continuation.End (machine r.state [] w looks)
 PrintCases env p before (Ok (Some left.Printing)) r now w looks = RanSteps env p before r.continuation (machine r.state now w looks)
-PrintCases env p before (Ok (Some (left.ImplPath base r))) inner now w looks = PrintingInImplPath env p before base inner r now w looks
+PrintCases env p before (Ok (Some (left.Skipping base r))) inner now w looks = PrintingInPart env p before base inner r now w looks
 PrintCases env p before (Err e) r now w looks = StoppedAfter env p before w looks
 
 pub record PrintDone {V : Type 0} (env : Env V) (p : Continuation) (before : Machine V) (result : Result (Option Unfinished) SinkRefused) (r : Checkpoint) (now : List Frame) (w : V) (looks : ℕ) : Type 0 where
@@ -202,27 +203,27 @@ pub record PrintDone {V : Type 0} (env : Env V) (p : Continuation) (before : Mac
 abbrev pub ValidUnfinished : List ℕ → Form → ℕ → Result (Option Unfinished) SinkRefused → Checkpoint → List Frame → ℕ → Type 0
 ValidUnfinished b form n (Ok None) r stack looks = Unit {0}
 ValidUnfinished b form n (Ok (Some left.Printing)) r stack looks = Valid r.continuation r.state stack × (n ≤ length stack)
-ValidUnfinished b form n (Ok (Some (left.ImplPath base r))) inner stack looks = (began : ℕ) × InImplPath b form base began inner r stack looks × Valid inner.continuation inner.state stack × (n ≤ length stack)
+ValidUnfinished b form n (Ok (Some (left.Skipping base r))) inner stack looks = (began : ℕ) × InPart b form base began inner r stack looks × Valid inner.continuation inner.state stack × (n ≤ length stack)
 ValidUnfinished b form n (Err e) r stack looks = Unit {0}
 
 -- the unfinished part that is not printed, if there was one, was read to its end
 abbrev pub Passed : List ℕ → Form → Unfinished → Checkpoint → List Frame → ℕ → Checkpoint → List Frame → ℕ → Type 0
 Passed b form left.Printing r stack old to now new = (to ≡ r) × (now ≡ stack) × (new ≤ old)
-Passed b form (left.ImplPath base r) inner stack old to now new = (below : List Frame) (began : ℕ) → ReadsImplPath b form below r began inner stack old → length below ≡ base → Skipped b form r.continuation r.state below began to.continuation to.state now new
+Passed b form (left.Skipping base r) inner stack old to now new = (below : List Frame) (began : ℕ) → ReadsPart b form below r began inner stack old → length below ≡ base → Skipped b form r.continuation r.state below began to.continuation to.state now new
 
 -- the same, or the stack of at least `n` frames was full before that
 abbrev pub Finishes : List ℕ → Form → ℕ → Unfinished → Checkpoint → List Frame → ℕ → Option Unfinished → Checkpoint → List Frame → ℕ → Type 0
 Finishes b form n x r stack old None to now new = Passed b form x r stack old to now new
 Finishes b form n left.Printing r stack old (Some y) to now new = ⊥
-Finishes b form n (left.ImplPath base r) inner stack old (Some left.Printing) to now new = ⊥
-Finishes b form n (left.ImplPath base r) inner stack old (Some (left.ImplPath height to)) more now new = (height ≡ base) × (to ≡ r) × Valid more.continuation more.state now × (n ≤ length now)
-    × ((below : List Frame) (began : ℕ) → ReadsImplPath b form below r began inner stack old → length below ≡ base → ReadsImplPath b form below r began more now new)
+Finishes b form n (left.Skipping base r) inner stack old (Some left.Printing) to now new = ⊥
+Finishes b form n (left.Skipping base r) inner stack old (Some (left.Skipping height to)) more now new = (height ≡ base) × (to ≡ r) × Valid more.continuation more.state now × (n ≤ length now)
+    × ((below : List Frame) (began : ℕ) → ReadsPart b form below r began inner stack old → length below ≡ base → ReadsPart b form below r began more now new)
 
 -- the looks that the unfinished part makes in any case
 abbrev pub looks_left : Result (Option Unfinished) SinkRefused → Checkpoint → ℕ
 looks_left (Ok None) r = 0
 looks_left (Ok (Some left.Printing)) r = first_looks r.continuation r.state
-looks_left (Ok (Some (left.ImplPath base r))) inner = 0
+looks_left (Ok (Some (left.Skipping base r))) inner = 0
 looks_left (Err e) r = 0
 
 -- the end: all was printed, or a piece was rejected

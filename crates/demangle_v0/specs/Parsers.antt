@@ -17,7 +17,7 @@ use Rattle.demangle_v0.specs.Measure.{AllInner}
 use Rattle.demangle_v0.specs.Steps.{Performs, PerformsAt, Env, CanEmit, CanRead, CanStep, StepPart, Machine, env, rest, machine, step_looks_bound, whole}
 use Rattle.demangle_v0.specs.StepRuns.{PerformsLast, Runs, bare, name_frames, raised}
 use Rattle.demangle_v0.specs.Traces.{pushed_on, remaining_trace}
-use Rattle.demangle_v0.specs.Loops.{Valid, ReadDone, Skipped, StopsInImplPath, PrintDone, ValidUnfinished, Finishes, Ended, first_looks, first_state, looks_left, printing, no_output_env, no_output_machine}
+use Rattle.demangle_v0.specs.Loops.{Valid, ReadDone, Skipped, StopsInPart, PrintDone, ValidUnfinished, Finishes, Ended, first_looks, first_state, looks_left, printing, no_output_env, no_output_machine}
 use Rattle.demangle_v0.specs.Productions.{IsProduction, target_part}
 use Rattle.demangle_v0.specs.declared.parser.Continuation.{Continuation}
 use Rattle.demangle_v0.specs.declared.parser.Continuation.TheVariants as continuation
@@ -29,7 +29,7 @@ use Rattle.demangle_v0.specs.declared.fuel.Fuel.{Fuel}
 use Rattle.demangle_v0.specs.declared.parser.machine.Parser.{Parser}
 use Rattle.demangle_v0.specs.declared.parser.steps.ReadOutcome.{ReadOutcome}
 use Rattle.demangle_v0.specs.declared.parser.steps.Checkpoint.{Checkpoint}
-use Rattle.demangle_v0.specs.declared.printer.Unfinished.{Unfinished}
+use Rattle.demangle_v0.specs.declared.parser.steps.Unfinished.{Unfinished}
 
 -- Changes to a parser.
 
@@ -159,14 +159,14 @@ abbrev pub CanPrint : {V : Type 0} → Ghosts V → Parser → V → Type 0
 CanPrint output m v = CanEmit (env_of output m) m.state v
 
 -- the effect of a back reference to a production that starts with this continuation
-abbrev pub Followed : {V : Type 0} → Ghosts V → Continuation → Parser → V → Result Continuation StepError → Parser → Type 0
-Followed output p m v result k =
+abbrev pub Followed : {V : Type 0} → Ghosts V → Continuation → Parser → V → Result Continuation StepError → Parser → V → Type 0
+Followed output p m v result k w =
     (closed : Bool) (kind : Kind) (value : Bool) → IsProduction m.source.symbol.now m.source.form p m.state.in_value m.state.letter m.state.lifetimes closed kind value
-    → PerformsPart output (target_part (env_of output m) closed kind value m.state) m v result k v
+    → PerformsPart output (target_part (env_of output m) closed kind value m.state) m v result k w
 
 -- An output that never receives a token, whether it prints or not.
 abbrev pub unused_output : Bool → Ghosts (Unit {0})
-unused_output is_printed = record { is_printed = is_printed; ready = λ v. Unit {0}; prints = λ v texts result w. ⊥ }
+unused_output is_printed = record { is_printed = is_printed; ready = λ v. Unit {0}; prints = λ v texts result w. ⊥; follows = λ v result w. ⊥ }
 
 -- when a continuation may run that emits nothing, and its effect
 abbrev pub CanAdvance : Continuation → Parser → Type 0
@@ -240,7 +240,7 @@ SkipsOver m k = Skipped m.source.symbol.now m.source.form m.continuation m.state
 
 -- the impl path was read until the stack was full
 abbrev pub SkipsFull : Parser → Unfinished → Parser → Type 0
-SkipsFull m x k = StopsInImplPath m.source.symbol.now m.source.form (checkpoint_of m) m.stack.frames m.looks x k.stack.room (checkpoint_of k) k.stack.frames k.looks
+SkipsFull m x k = StopsInPart m.source.symbol.now m.source.form (checkpoint_of m) m.stack.frames m.looks x k.stack.room (checkpoint_of k) k.stack.frames k.looks
 
 -- the same for the rest of an impl path that was read in part
 abbrev pub FinishesSkip : Parser → Unfinished → Option Unfinished → Parser → Type 0

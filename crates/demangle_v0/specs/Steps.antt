@@ -1,10 +1,10 @@
 -- Internal: no public contract cites this.
 -- The effect of one step.
 use Rattle.std.specs.Prelude.{Err, IsAscii, IsOk, List, None, Ok, Option, Result, Some, [], false, length, true, ℕ, ◌*◌, ◌++◌, ◌+◌, ◌-◌, ◌<◌, ◌∷◌, ◌≡◌, ◌≤◌, ◌⊎◌}
-use Rattle.demangle_v0_grammar.specs.Items.{Items, Text}
+use Rattle.demangle_v0_grammar.specs.Items.{Items}
 use Rattle.demangle_v0_grammar.specs.Reading.{Form, Place, parse}
 use Rattle.demangle_v0_grammar.specs.LookTotals.{total}
-use Rattle.demangle_v0_grammar.specs.Traces.{Trace, context_at, empty_trace, of, with_looks, with_texts}
+use Rattle.demangle_v0_grammar.specs.Traces.{Trace, context_at, empty_trace, of, with_looks, with_reference, with_texts}
 use Rattle.demangle_v0_tokens.specs.Texts.{text}
 use Rattle.demangle_v0_tokens.specs.Tokens.{texts_of}
 use Rattle.demangle_v0_tokens.specs.declared.fixed_texts.FixedText.{FixedText}
@@ -50,26 +50,36 @@ pub record StepPart : Type 0 where
 abbrev pub part : ℕ → Trace → ℕ → ℕ → StepPart
 part words h weight height = record { words = words; trace = h; weight = weight; height = height }
 
--- the texts of a token, if one was emitted
-abbrev pub emitted_texts : {V : Type 0} → Env V → Option Token → List Text
-emitted_texts env None = []
-emitted_texts env (Some s) = texts_of env.symbol env.form s
+-- what the output receives: a token, or that a reference is followed
+pub data Emission : Type 0 where
+  gives : Token → Emission
+  refers_on : Emission
 
-abbrev pub Emits : {V : Type 0} → Env V → Option Token → V → V → Type 0
+-- the trace after an emission, if there was one
+abbrev pub after_emission : {V : Type 0} → Env V → Option Emission → Trace → Trace
+after_emission env None h = h
+after_emission env (Some (gives s)) h = with_texts env.output.is_printed (texts_of env.symbol env.form s) h
+after_emission env (Some refers_on) h = with_reference env.output.is_printed h
+
+abbrev pub Receives : {V : Type 0} → Env V → Emission → V → Result (Unit {0}) SinkRefused → V → Type 0
+Receives env (gives s) v result w = env.output.prints v (texts_of env.symbol env.form s) result w
+Receives env refers_on v result w = env.output.follows v result w
+
+abbrev pub Emits : {V : Type 0} → Env V → Option Emission → V → V → Type 0
 Emits env None v w = v ≡ w
-Emits env (Some s) v w = env.output.prints v (texts_of env.symbol env.form s) (Ok tt) w
+Emits env (Some x) v w = Receives env x v (Ok tt) w
 
--- The step continues at another continuation, and may have pushed a frame. It prints at most one text: a token that
--- goes to the output, or the pending text.
+-- The step continues at another continuation, and may have pushed a frame. It emits a token, follows a reference, or
+-- prints the pending text, but no two of these.
 pub record Continued {V : Type 0} (env : Env V) (part : StepPart) (before : Machine V) (to : Continuation) (after : Machine V) : Type 0 where
   pub prefix : List ℕ
-  pub emitted : Option Token
+  pub emitted : Option Emission
   pub back : List ℕ
   pub pushed : Option Frame
   pub emits : Emits env emitted before.output after.output
   pub one : (emitted ≡ None) ⊎ (after.state.pending_text ≡ None)
   pub reads : part.trace
-      ≡ with_looks prefix (with_texts env.output.is_printed (emitted_texts env emitted) (with_texts env.output.is_printed (pending_texts after.state.pending_text) (with_looks back (then_frame env.symbol env.form env.output.is_printed pushed (trace_of_state env.symbol env.form env.output.is_printed to after.state)))))
+      ≡ with_looks prefix (after_emission env emitted (with_texts env.output.is_printed (pending_texts after.state.pending_text) (with_looks back (then_frame env.symbol env.form env.output.is_printed pushed (trace_of_state env.symbol env.form env.output.is_printed to after.state)))))
   pub is_stack : after.stack ≡ pushed_on before.stack pushed
   pub primitive_count : length prefix + length back ≤ part.words
   pub paid_looks : after.looks ≤ before.looks + (total prefix + total back)
@@ -92,15 +102,15 @@ pub record Aborted {V : Type 0} (env : Env V) (part : StepPart) (before : Machin
   pub paid_looks : after.looks ≤ before.looks + total prefix
   pub lighter : 1 ≤ part.weight + 100 * total prefix
 
--- The output rejected the token or, if nothing is printed, parsing failed. At most two looks were made too early, and
+-- The output rejected the token or the reference or, if nothing is printed, parsing failed. At most two looks were made too early, and
 -- none if nothing is printed.
 pub record Stopped {V : Type 0} (env : Env V) (part : StepPart) (before after : Machine V) : Type 0 where
   pub prefix : List ℕ
-  pub emitted : Token
+  pub emitted : Emission
   pub rest : Trace
   pub rejection : SinkRefused
-  pub prints : env.output.prints before.output (texts_of env.symbol env.form emitted) (Err rejection) after.output
-  pub reads : part.trace ≡ with_looks prefix (with_texts env.output.is_printed (texts_of env.symbol env.form emitted) rest)
+  pub prints : Receives env emitted before.output (Err rejection) after.output
+  pub reads : part.trace ≡ with_looks prefix (after_emission env (Some emitted) rest)
   pub primitive_count : length prefix ≤ part.words
   pub paid_looks : after.looks ≤ before.looks + (total prefix + 2)
   pub exact : env.output.is_printed ≡ false → after.looks ≤ before.looks + total prefix

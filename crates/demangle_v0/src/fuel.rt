@@ -9,15 +9,12 @@
 //! Outside of references a parse reads each byte once, as validation does. Within them it has only
 //! a little fuel: some from its start, and some for each byte that it read outside.
 ghost use Rattle.std.specs.Prelude.{◌≡◌, ◌+◌, ◌-◌, ◌*◌, ◌<◌, ◌≤◌, true, false, length, Some, IsTrue, IsErr, IsSome, IfSome, IfOk, IfNone};
-ghost use Rattle.demangle_v0.specs.Parsers.{IsValid, IsWithin, Paced, Same, SkipsFull, SkipsOver, all_of, left_at, no_fuel};
-ghost use Rattle.demangle_v0.specs.Skips.{is_skipped};
+ghost use Rattle.demangle_v0.specs.Parsers.{all_of, left_at, no_fuel};
 
-use crate::parser::machine::Parser;
-use crate::printer::Unfinished;
 use std::mem;
 
 /// The fuel for each byte of a run and for its end.
-const FUEL_PER_BYTE: usize = 24;
+const FUEL_PER_BYTE: usize = 12;
 
 /// The part of it that a parse has at its start for the steps within references.
 const FIRST_FUEL: usize = 64;
@@ -73,7 +70,7 @@ impl Fuel {
     /// Returns the fuel for a run of so many bytes.
     #[inline(always)]
     pub(crate) fn for_run(bytes: usize) -> Self
-        ensures { all_of result ≤ 24 * (bytes + 1) }
+        ensures { all_of result ≤ 12 * (bytes + 1) }
     {
         let all = bytes.saturating_add(1).saturating_mul(FUEL_PER_BYTE);
         let reserve = FIRST_FUEL.min(all);
@@ -253,7 +250,7 @@ impl Fuel {
 
 /// Returns what is left of the fuel after the bytes from one place up to another were read without
 /// output. An error leaves none.
-fn fuel_after(fuel: usize, from: Option<usize>, to: Option<usize>) -> usize
+pub(crate) fn fuel_after(fuel: usize, from: Option<usize>, to: Option<usize>) -> usize
     ensures paid { 0 < result → IfSome from (λ i. IfSome to (λ j. result + 7 * (j - i) ≡ fuel)) }
     ensures known { 0 < result → (IsSome from) × (IsSome to) }
 {
@@ -265,48 +262,4 @@ fn fuel_after(fuel: usize, from: Option<usize>, to: Option<usize>) -> usize
     };
     let used = to.saturating_sub(from).saturating_mul(SKIPPED_BYTE_FUEL);
     fuel.saturating_sub(used)
-}
-
-impl Parser<'_, '_> {
-    /// Returns whether a parse may read a part without output. One with a budget may do so only at
-    /// a byte or at the end, where the length of the symbol bounds the looks.
-    #[inline(always)]
-    pub(crate) fn may_skip(&self, has_budget: bool) -> bool
-        ensures within { IsTrue result → has_budget ≡ true → IsWithin self.now }
-        ensures without { result ≡ false → has_budget ≡ true }
-    {
-        if !has_budget {
-            return true;
-        }
-        match self.place() {
-            Some(at) => at <= self.source.symbol.len(),
-            None => false,
-        }
-    }
-
-    /// Reads the impl path or the folded arguments at which the parser is, continues after them,
-    /// and uses up fuel for their bytes. Returns what is left to print if the stack is full before
-    /// they end. Then no fuel is left, and neither is after an error.
-    #[inline(never)]
-    pub(crate) fn skip_for_fuel(&mut self) -> Option<Unfinished>
-        requires skipped { is_skipped self.old.source.form self.old.continuation ≡ true }
-        requires valid { IsValid self.old }
-        ensures over { IfNone result (SkipsOver self.old self.new) }
-        ensures full { IfSome result (λ x. SkipsFull self.old x self.new) }
-        ensures paced { IsWithin self.old → Paced 20 self.old self.new }
-        ensures most { IsWithin self.old → self.new.looks ≤ self.old.looks + 32 * (length
-            self.old.source.symbol.now + 1) + 7 }
-        ensures grows { self.old.looks ≤ self.new.looks }
-        ensures same { Same self.old self.new }
-    {
-        let fuel = self.fuel;
-        let start = self.place();
-        if let Some(left) = self.skip_impl_path() {
-            self.fuel.use_up();
-            return Some(left);
-        }
-        let left = fuel_after(fuel.left, start, self.place());
-        self.fuel = Fuel { left, ..fuel };
-        None
-    }
 }

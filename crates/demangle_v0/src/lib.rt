@@ -122,7 +122,8 @@ pub enum Printed<'s> {
     Part(Demangle<'s>, &'s str),
     /// The text is not a symbol. A part of a path may be printed.
     NoSymbol,
-    /// The limit or the sink rejected a piece before it was known whether the text is a symbol.
+    /// The limit or the sink rejected a piece, or the limit a reference, before it was known whether
+    /// the text is a symbol.
     Unknown,
 }
 
@@ -145,8 +146,8 @@ pub fn demangle_printed<'s, S: TextSink>(
     ensures known { IsKnown S.TextSink s.now out.old form result out.new }
     ensures inner { HasLengthsWithin (length s.now) result }
     ensures grows { looks.old ≤ looks.new }
-    ensures most { looks.new ≤ looks.old + 186 * (length s.now + 1) }
-    ensures early { result ≡ Printed.Unknown → looks.new ≤ looks.old + 133 * (length s.now + 1) + 8 }
+    ensures most { looks.new ≤ looks.old + 134 * (length s.now + 1) }
+    ensures early { result ≡ Printed.Unknown → looks.new ≤ looks.old + 85 * (length s.now + 1) + 8 }
 {
     let Some(inner) = ascii_inner_of(s, true, looks) else {
         return Printed::NoSymbol;

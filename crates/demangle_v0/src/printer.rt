@@ -8,20 +8,10 @@ use crate::parser::Continuation;
 use crate::parser::frames::{FULL_STACK, MIDDLE_STACK, UNUSED_FRAME};
 use crate::parser::machine::Parser;
 use crate::parser::skip::is_skipped;
-use crate::parser::steps::Checkpoint;
+use crate::parser::steps::Unfinished;
 use demangle_sink::{SinkRefused, SizeLimitedFmtAdapter, TextSink};
 use demangle_symbol::cursor::Looks;
 use std::mem;
-
-/// The rest that is left to print when the stack is full.
-#[derive(Clone, Copy)]
-pub enum Unfinished {
-    /// The rest is that of the parser and its frames.
-    Printing,
-    /// The same, and the parser is in an impl path or folded arguments, which began above that many
-    /// frames. After them, printing continues at the checkpoint.
-    ImplPath(usize, Checkpoint),
-}
 
 impl Parser<'_, '_> {
     /// Prints until nothing is left or the stack is full. A parse with a budget also stops when its
@@ -98,7 +88,7 @@ impl Parser<'_, '_> {
             unfinished_looks result self.new }
         ensures same { Same self.old self.new }
     {
-        if let Some(more) = self.finish_impl_path(left) {
+        if let Some(more) = self.finish_skip(left) {
             return Ok(Some(more));
         }
         self.print_steps(out, false)

@@ -4,7 +4,7 @@ ghost use Rattle.demangle_v0_grammar.specs.Items.{a_path};
 ghost use Rattle.demangle_v0.specs.Parsers.{IsValid, Recounted, Same, all_of, trace_without_output};
 ghost use Rattle.demangle_v0.specs.Measure.{AllInner};
 ghost use Rattle.demangle_v0.specs.Loops.{first_state};
-ghost use Rattle.demangle_v0_grammar.specs.Reading.{starts_second_path, path_texts, unit_end, suffix_place, read_at};
+ghost use Rattle.demangle_v0_grammar.specs.Reading.{starts_second_path, unit_end, suffix_place, read_at};
 ghost use Rattle.demangle_v0_grammar.specs.LookTotals.{allowed_in};
 ghost use Rattle.demangle_v0_grammar.specs.ValidationLooks.{looks_in, suffix_looks, accepting_looks};
 ghost use Rattle.demangle_sink.specs.Limit.{Ready};
@@ -14,8 +14,7 @@ use crate::fuel::Fuel;
 use crate::parser::Continuation;
 use crate::parser::frames::{FULL_STACK, MIDDLE_STACK, SHORT_STACK, UNUSED_FRAME};
 use crate::parser::machine::Parser;
-use crate::parser::steps::ReadOutcome;
-use crate::printer::Unfinished;
+use crate::parser::steps::{ReadOutcome, Unfinished};
 use demangle_sink::{SizeLimitedFmtAdapter, TextSink};
 use demangle_symbol::cursor::{Looks, Symbol};
 use demangle_symbol::form::Form;
@@ -172,7 +171,7 @@ pub enum Attempt {
     Read(usize),
     /// A path has an error. A part of the first path may be printed.
     NoPath,
-    /// The limit or the sink rejected a piece.
+    /// The limit or the sink rejected a piece, or the limit a reference.
     Unknown,
 }
 
@@ -219,8 +218,8 @@ fn printed_first<S: TextSink>(
     requires empty { parser.old.stack.frames ≡ [] }
     requires smaller { parser.old.stack.room ≤ MIDDLE_STACK }
     ensures suffix { SuffixOf parser.old.source.symbol.now result }
-    ensures prints { PrintsIfPrinted S.TextSink out.old (path_texts parser.old.source.symbol.now
-        parser.old.source.form) result out.new }
+    ensures prints { PrintsIfPrinted S.TextSink out.old parser.old.source.symbol.now
+        parser.old.source.form result out.new }
     ensures grows { parser.old.looks ≤ parser.new.looks }
     ensures most { parser.new.looks ≤ parser.old.looks + 4 * all_of parser.old.fuel + 76 * (length
         parser.old.source.symbol.now + 1) + 8 }
@@ -242,7 +241,7 @@ fn printed_first<S: TextSink>(
     let is_printed = match left {
         None => true,
         Some(Unfinished::Printing) => parser.print_validated(out).is_ok(),
-        Some(Unfinished::ImplPath(_, _)) => false,
+        Some(Unfinished::Skipping(_, _)) => false,
     };
     if is_printed {
         Attempt::Printed(end)
@@ -265,11 +264,11 @@ pub fn print_to_suffix<S: TextSink>(
     requires ascii { IsAscii source.symbol.now }
     requires ready { Ready S.TextSink out.old }
     ensures suffix { SuffixOf source.entry.symbol.now result }
-    ensures prints { PrintsIfPrinted S.TextSink out.old (path_texts source.entry.symbol.now
-        source.entry.form) result out.new }
+    ensures prints { PrintsIfPrinted S.TextSink out.old source.entry.symbol.now source.entry.form
+        result out.new }
     ensures grows { looks.old ≤ looks.new }
-    ensures most { looks.new ≤ looks.old + 184 * (length source.entry.symbol.now + 1) }
-    ensures early { result ≡ Attempt.Unknown → looks.new ≤ looks.old + 132 * (length
+    ensures most { looks.new ≤ looks.old + 132 * (length source.entry.symbol.now + 1) }
+    ensures early { result ≡ Attempt.Unknown → looks.new ≤ looks.old + 84 * (length
         source.entry.symbol.now + 1) + 7 }
 {
     let mut memory = [UNUSED_FRAME; SHORT_STACK];

@@ -1,8 +1,10 @@
 //! A v0 symbol that was read. It prints its first path.
-ghost use Rattle.std.specs.Prelude.{◌≡◌, ◌+◌, ◌*◌, ◌≤◌, IsAscii, length};
+ghost use Rattle.std.specs.Prelude.{◌≡◌, ◌+◌, ◌*◌, ◌≤◌, IfSome, IsAscii, length};
 ghost use Rattle.demangle_sink.specs.Cut.{kept};
-ghost use Rattle.demangle_sink.specs.Limit.{Prints, Ready};
-ghost use Rattle.demangle_v0_grammar.specs.Reading.{path_texts};
+ghost use Rattle.demangle_sink.specs.Limit.{Ready};
+ghost use Rattle.demangle_v0_grammar.specs.Again.{path_again};
+ghost use Rattle.demangle_v0_grammar.specs.References.{path_texts_before};
+ghost use Rattle.demangle_v0.specs.Attempts.{PrintsPath};
 
 use crate::parser::frames::{SHORT_STACK, UNUSED_FRAME};
 use crate::parser::machine::Parser;
@@ -40,7 +42,8 @@ impl<'s> Demangle<'s> {
     /// Prints the first path, with hashes or without them, and with its generic arguments or with
     /// `_` for them.
     ///
-    /// Fails at the first piece that the limit or the sink rejects.
+    /// Fails at the first piece that the limit or the sink rejects, and if more references would be
+    /// followed than the adapter allows.
     pub fn write_to<S: TextSink>(
         &self,
         out: &mut SizeLimitedFmtAdapter<'_, S>,
@@ -48,10 +51,13 @@ impl<'s> Demangle<'s> {
         looks: &mut Looks,
     ) -> Result<(), SinkRefused>
         requires { Ready S.TextSink out.old }
-        ensures prints { Prints S.TextSink out.old (path_texts self.now form) result out.new }
+        ensures prints { PrintsPath S.TextSink out.old self.now form result out.new }
         ensures grows { looks.old ≤ looks.new }
-        ensures most { looks.new ≤ looks.old
-            + 100000 * (kept (path_texts self.now form) out.old.remaining + 1) * (length self.now + 1) }
+        ensures most { looks.new ≤ looks.old + 100000 * (kept (path_texts_before out.old.references self.now
+            form) out.old.remaining + 1) * (length self.now + 1) }
+        ensures again { looks.new ≤ looks.old + 17 * (length self.now + 1 + path_again self.now form) }
+        ensures few { IfSome out.old.references (λ references.
+            looks.new ≤ looks.old + 20 * (length self.now + 1) * (references + 1)) }
         ensures least { looks.old + 1 ≤ looks.new }
     {
         let source = Source {

@@ -35,7 +35,7 @@ abbrev pub is_closed : Kind → Bool
 is_closed a_trait_path = false
 is_closed kind = true
 
--- Whether the items fit a budget of k looks at the start and e at the end. Each byte that is read adds 32 looks. A
+-- Whether the items fit a budget of k looks at the start and e at the end. Each byte that is read adds 17 looks. A
 -- primitive costs 4 for each byte and 4 more. `g` says that a nested production may come now, because at least one byte
 -- was printed since the previous one. The productions that start before the depth is raised are of a rank below r. If c
 -- is true, none leaves a `<` open at the end.
@@ -44,27 +44,27 @@ Fits c r e k g done = e ≤ k
 Fits c r e k g invalid = Unit {0}
 Fits c r e k g (print t p) = Fits c r e k (g || is_some_text t) p
 Fits c r e k g (print_plain t p) = Fits c r e k g p
-Fits c r e k g (byte f) = (v : ℕ) → Fits c r e (k + 24) g (f v)
-Fits c r e k g (namespace f) = (v : ℕ) → Fits c r e (k + 24) g (f v)
-Fits c r e k g (integer f) = (v : ℕ) → Fits c r e (k + 24) g (f v)
+Fits c r e k g (byte f) = (v : ℕ) → Fits c r e (k + 9) g (f v)
+Fits c r e k g (namespace f) = (v : ℕ) → Fits c r e (k + 9) g (f v)
+Fits c r e k g (integer f) = (v : ℕ) → Fits c r e (k + 9) g (f v)
 Fits c r e k g (optional tag f) = (4 ≤ k) × ((v : ℕ) → Fits c r e (k - 4) g (f v))
-Fits c r e k g (identifier f) = (v : Name) → Fits c r e (k + 24) g (f v)
-Fits c r e k g (nibbles f) = (v : List ℕ) → Fits c r e (k + 24) g (f v)
+Fits c r e k g (identifier f) = (v : Name) → Fits c r e (k + 9) g (f v)
+Fits c r e k g (nibbles f) = (v : List ℕ) → Fits c r e (k + 9) g (f v)
 Fits c r e k g (peek f) = (1 ≤ k) × ((v : ℕ) → Fits c r e (k - 1) g (f v))
-Fits c r e k g (next b p q) = (1 ≤ k) × Fits c r e (k + 31) g p × Fits c r e (k - 1) g q
+Fits c r e k g (next b p q) = (1 ≤ k) × Fits c r e (k + 16) g p × Fits c r e (k - 1) g q
 Fits c r e k g (if_ok p q) = (l : ℕ) × (h : Bool) × Fits c r e k g p × Fits c r e l h q
-Fits c r e k g (until_end p q) = (l : ℕ) × (l ≤ k) × (1 ≤ l) × Fits c r l (l - 1) false p × Fits c r e (l + 31) false q
+Fits c r e k g (until_end p q) = (l : ℕ) × (l ≤ k) × (1 ≤ l) × Fits c r l (l - 1) false p × Fits c r e (l + 16) false q
 Fits c r e k g (raise p) = Fits c 2 e k g p
 Fits c r e k g (unit p q) = (l : ℕ) × Fits c r l k g p × Fits c r e l false q
 Fits c r e k g (child kind value p) = (start kind ≤ k) × IsTrue (is_below r kind && g) × Fits c r e 8 false p
 Fits c r e k g (skip p) = IsTrue (is_below r a_path) × Fits c r e 8 g p
 Fits c r e k g (folded p q) = (l : ℕ) × Fits c r l k g p × Fits c r e l false q
-Fits c r e k g (target kind value) = IsTrue ((if c then is_closed kind else true) && g) × (e ≤ k + 24)
+Fits c r e k g (target kind value) = IsTrue ((if c then is_closed kind else true) && g) × (e ≤ k + 9)
 Fits c r e k g (lifetime n p) = Fits c r e k g p
 Fits c r e k g (binder n p) = Fits c r e k g p
 Fits c r e k g (leave_open p) = (c ≡ false) × Fits c r e k g p
-Fits c r e k g (dyn_trait p) = (start a_trait_path ≤ k) × IsTrue (is_below r a_trait_path && g) × ((l : ℕ) × (l ≤ 8) × (1 ≤ l) × Fits c r l (l + 55) true p × (e ≤ l - 1))
-Fits c r e k g (bindings o p) = IsTrue (is_below r a_trait_path) × (l : ℕ) × (l ≤ k) × (1 ≤ l) × Fits c r l (l + 55) true p × (e ≤ l - 1)
+Fits c r e k g (dyn_trait p) = (start a_trait_path ≤ k) × IsTrue (is_below r a_trait_path && g) × ((l : ℕ) × (l ≤ 8) × (1 ≤ l) × Fits c r l (l + 25) true p × (e ≤ l - 1))
+Fits c r e k g (bindings o p) = IsTrue (is_below r a_trait_path) × (l : ℕ) × (l ≤ k) × (1 ≤ l) × Fits c r l (l + 25) true p × (e ≤ l - 1)
 
 pub first : (a b : Bool) → IsTrue (a && b) → IsTrue a
 first true b h = refl
@@ -72,8 +72,8 @@ first false b h = h
 
 -- From place i on, of n bytes, `from` and the bytes that are read pay for the entries, and `to` is left.
 abbrev pub Ends : (n r i from to : ℕ) → List LookCost → Place → Type 0
-Ends n r i from to xs None = IsWithinBudget r (32 * (n + 1 - i) + from) xs 0
-Ends n r i from to xs (Some j) = (i ≤ j) × (j ≤ n) × IsWithinBudget r (32 * (j - i) + from) xs to
+Ends n r i from to xs None = IsWithinBudget r (17 * (n + 1 - i) + from) xs 0
+Ends n r i from to xs (Some j) = (i ≤ j) × (j ≤ n) × IsWithinBudget r (17 * (j - i) + from) xs to
 
 abbrev pub LooksWithin : Bool → (n r i from to : ℕ) → Outcome → Type 0
 LooksWithin plain n r i from to o = Ends n r i from to (costs_of plain o.tree) o.place

@@ -25,6 +25,11 @@ pub mod StepLooks
 pub mod TableCost
 pub mod Repetitions
 pub mod TypeTraces
+pub mod AgainExample
+pub mod AgainItems
+pub mod AgainLaw
+pub mod Calm
+pub mod ReferenceLaw
 pub mod Unique
 pub mod UnitTraces
 pub mod V0Reading

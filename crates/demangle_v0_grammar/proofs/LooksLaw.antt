@@ -6,7 +6,7 @@ use Rattle.demangle_v0_grammar.specs.LookBudget.{LookCost, bytes_of, looks_of, I
 use Rattle.demangle_sink.specs.Cut.{size}
 use Rattle.demangle_sink.proofs.CutLemmas.{size-append}
 use Rattle.demangle_v0_grammar.specs.Reading.{Form, Outcome}
-use Rattle.demangle_v0_grammar.specs.Reading.{Tree, nothing, piece, plain_piece, node, looked, unprinted, Place, Context, max_depth, parse, costs_of, looks, pieces, looks_only, unit_outcome, starts_second_path, unit_end, read_at, path_texts}
+use Rattle.demangle_v0_grammar.specs.Reading.{Tree, nothing, piece, plain_piece, node, looked, unprinted, referred, Place, Context, max_depth, parse, costs_of, looks, pieces, looks_only, unit_outcome, starts_second_path, unit_end, read_at, path_texts}
 use Rattle.demangle_v0_grammar.specs.Traces.{context_at}
 use Rattle.demangle_v0_grammar.specs.ValidationLooks.{looks_in, suffix_looks, second_looks, accepting_looks}
 use Rattle.demangle_v0_grammar.proofs.BudgetRules.{IsWithinBudget-bound, IsWithinBudget-whole}
@@ -35,15 +35,15 @@ printing_looks symbol form k = omega (arith, IsWithinBudget-bound (looks_a_byte 
 
 -- the looks of a parse without references, by the place where it ends
 abbrev pub Costs : ℕ → ℕ → ℕ → Place → Type 0
-Costs n i c None = c ≤ 32 * (n + 1 - i)
-Costs n i c (Some j) = (i ≤ j) × (j ≤ n) × (c + 8 ≤ 32 * (j - i))
+Costs n i c None = c ≤ 17 * (n + 1 - i)
+Costs n i c (Some j) = (i ≤ j) × (j ≤ n) × (c + 8 ≤ 17 * (j - i))
 
 costs : (symbol : List ℕ) (i : ℕ) → i ≤ length symbol → Costs (length symbol) i (looks_in (read_at symbol false false a_path i 0 0 true)) (read_at symbol false false a_path i 0 0 true).place
 costs symbol i l = go (read_at symbol false false a_path i 0 0 true).tree (read_at symbol false false a_path i 0 0 true).place (spelling_paid true symbol false a_path i 0 0 true l)
   where
     go : (t : Tree) (x : Place) → Ends (length symbol) 0 i (0 + 0) 8 (costs_of true t) x → Costs (length symbol) i (looks_of (costs_of true t)) x
-    go t None h = let w : looks_of (costs_of true t) + 0 ≤ 32 * (length symbol + 1 - i) + (0 + 0) + 0 * bytes_of (costs_of true t) = IsWithinBudget-whole 0 (32 * (length symbol + 1 - i) + (0 + 0)) 0 (costs_of true t) h in omega (arith, w)
-    go t (Some j) h = let w : looks_of (costs_of true t) + 8 ≤ 32 * (j - i) + (0 + 0) + 0 * bytes_of (costs_of true t) = IsWithinBudget-whole 0 (32 * (j - i) + (0 + 0)) 8 (costs_of true t) h.2 in (h.0, h.1, omega (arith, w))
+    go t None h = let w : looks_of (costs_of true t) + 0 ≤ 17 * (length symbol + 1 - i) + (0 + 0) + 0 * bytes_of (costs_of true t) = IsWithinBudget-whole 0 (17 * (length symbol + 1 - i) + (0 + 0)) 0 (costs_of true t) h in omega (arith, w)
+    go t (Some j) h = let w : looks_of (costs_of true t) + 8 ≤ 17 * (j - i) + (0 + 0) + 0 * bytes_of (costs_of true t) = IsWithinBudget-whole 0 (17 * (j - i) + (0 + 0)) 8 (costs_of true t) h.2 in (h.0, h.1, omega (arith, w))
 
 -- the looks of a part that is not printed, by the place where it ends; at most `more` beyond what its bytes pay for
 abbrev pub HiddenCosts : ℕ → ℕ → ℕ → ℕ → Place → Type 0
@@ -51,8 +51,8 @@ HiddenCosts n i more c None = c ≤ 32 * (n + 1 - i) + more
 HiddenCosts n i more c (Some j) = (i ≤ j) × (j ≤ n) × (c ≤ 32 * (j - i) + more)
 
 hidden : (plain : Bool) (n i from more to : ℕ) → from ≤ more → (t : Tree) (x : Place) → Ends n 0 i from to (costs_of plain t) x → HiddenCosts n i more (looks_of (costs_of plain t)) x
-hidden plain n i from more to l t None h = let w : looks_of (costs_of plain t) + 0 ≤ 32 * (n + 1 - i) + from + 0 * bytes_of (costs_of plain t) = IsWithinBudget-whole 0 (32 * (n + 1 - i) + from) 0 (costs_of plain t) h in omega (arith, w, l)
-hidden plain n i from more to l t (Some j) h = let w : looks_of (costs_of plain t) + to ≤ 32 * (j - i) + from + 0 * bytes_of (costs_of plain t) = IsWithinBudget-whole 0 (32 * (j - i) + from) to (costs_of plain t) h.2 in (h.0, h.1, omega (arith, w, l))
+hidden plain n i from more to l t None h = let w : looks_of (costs_of plain t) + 0 ≤ 17 * (n + 1 - i) + from + 0 * bytes_of (costs_of plain t) = IsWithinBudget-whole 0 (17 * (n + 1 - i) + from) 0 (costs_of plain t) h in omega (arith, w, l)
+hidden plain n i from more to l t (Some j) h = let w : looks_of (costs_of plain t) + to ≤ 17 * (j - i) + from + 0 * bytes_of (costs_of plain t) = IsWithinBudget-whole 0 (17 * (j - i) + from) to (costs_of plain t) h.2 in (h.0, h.1, omega (arith, w, l))
 
 pub hidden_path_costs : (symbol : List ℕ) (form : Form) (left m i : ℕ) → i ≤ length symbol → let o = unit_outcome (context_at symbol form false left m) a_path false (Some i) in HiddenCosts (length symbol) i 7 (looks_of (costs_of form.include_hash o.tree)) o.place
 hidden_path_costs symbol form left m i l =
@@ -65,15 +65,15 @@ hidden_costs p c a symbol form left m i l =
     hidden form.include_hash (length symbol) i (7 + 0) 7 8 (omega arith) o.tree o.place (hidden_paid form.include_hash p c 2 8 7 a symbol form left m i l)
 
 -- with the suffix
-with_suffix : (symbol : List ℕ) (j c : ℕ) (x : Place) → j ≤ length symbol → Costs (length symbol) j c x → c + suffix_looks symbol x ≤ 32 * (length symbol + 1 - j)
+with_suffix : (symbol : List ℕ) (j c : ℕ) (x : Place) → j ≤ length symbol → Costs (length symbol) j c x → c + suffix_looks symbol x ≤ 17 * (length symbol + 1 - j)
 with_suffix symbol j c None l h = omega (arith, h)
 with_suffix symbol j c (Some k) l h = omega (arith, l, h.0, h.1, h.2)
 
-second_costs : (symbol : List ℕ) (j : ℕ) → j ≤ length symbol → second_looks symbol (Some j) ≤ 1 + 32 * (length symbol + 1 - j)
+second_costs : (symbol : List ℕ) (j : ℕ) → j ≤ length symbol → second_looks symbol (Some j) ≤ 1 + 17 * (length symbol + 1 - j)
 second_costs symbol j l = go (starts_second_path symbol j)
   where
-    go : (c : Bool) → 1 + (cond c (looks_in (read_at symbol false false a_path j 0 0 true) + suffix_looks symbol (read_at symbol false false a_path j 0 0 true).place) (suffix_looks symbol (Some j))) ≤ 1 + 32 * (length symbol + 1 - j)
-    go true = let w : looks_in (read_at symbol false false a_path j 0 0 true) + suffix_looks symbol (read_at symbol false false a_path j 0 0 true).place ≤ 32 * (length symbol + 1 - j) =
+    go : (c : Bool) → 1 + (cond c (looks_in (read_at symbol false false a_path j 0 0 true) + suffix_looks symbol (read_at symbol false false a_path j 0 0 true).place) (suffix_looks symbol (Some j))) ≤ 1 + 17 * (length symbol + 1 - j)
+    go true = let w : looks_in (read_at symbol false false a_path j 0 0 true) + suffix_looks symbol (read_at symbol false false a_path j 0 0 true).place ≤ 17 * (length symbol + 1 - j) =
         with_suffix symbol j (looks_in (read_at symbol false false a_path j 0 0 true)) (read_at symbol false false a_path j 0 0 true).place l (costs symbol j l) in omega (arith, w)
     go false = omega (arith, l)
 
@@ -89,20 +89,23 @@ second_path_costs symbol j e =
     all None l h = omega (arith, h)
     all (Some k) l h = omega (arith, h.0, h.1, h.2)
 
-both_cost : (symbol : List ℕ) (c : ℕ) (x : Place) → Costs (length symbol) 0 c x → c + second_looks symbol x ≤ 32 * (length symbol + 1)
+both_cost : (symbol : List ℕ) (c : ℕ) (x : Place) → Costs (length symbol) 0 c x → c + second_looks symbol x ≤ 17 * (length symbol + 1)
 both_cost symbol c None h = omega (arith, h)
-both_cost symbol c (Some j) h = let w : second_looks symbol (Some j) ≤ 1 + 32 * (length symbol + 1 - j) = second_costs symbol j h.1 in omega (arith, h.0, h.1, h.2, w)
+both_cost symbol c (Some j) h = let w : second_looks symbol (Some j) ≤ 1 + 17 * (length symbol + 1 - j) = second_costs symbol j h.1 in omega (arith, h.0, h.1, h.2, w)
 
 pub accepting_costs : (symbol : List ℕ) → accepting_looks symbol ≤ 32 * (length symbol + 1)
 unfolding accepting_looks
-accepting_costs symbol = both_cost symbol (looks_in (read_at symbol false false a_path 0 0 0 true)) (read_at symbol false false a_path 0 0 0 true).place (costs symbol 0 (omega arith))
+accepting_costs symbol = within (both_cost symbol (looks_in (read_at symbol false false a_path 0 0 0 true)) (read_at symbol false false a_path 0 0 0 true).place (costs symbol 0 (omega arith)))
+  where
+    within : {c : ℕ} → c ≤ 17 * (length symbol + 1) → c ≤ 32 * (length symbol + 1)
+    within h = omega (arith, h)
 
 -- any production, at any depth
 pub unit_looks : (symbol : List ℕ) (folds plain : Bool) (kind : Kind) (i d m : ℕ) (value : Bool) (k : ℕ) → i ≤ length symbol → d ≤ max_depth →
     looks_of (take (suc k) (costs_of plain (read_at symbol folds true kind i d m value).tree)) ≤ 34 * (length symbol + 1) * (max_depth + 1 - d) * (bytes_of (take k (costs_of plain (read_at symbol folds true kind i d m value).tree)) + 1)
 unit_looks symbol folds plain kind i d m value k l b =
     let deeper : max_depth + 1 - d ≡ (max_depth - d) + 1 = omega (arith, b) in
-    rw deeper (sum (length symbol) (max_depth - d) _ _ (IsWithinBudget-bound (34 * (length symbol + 1) * (max_depth - d)) (32 * (length symbol + 1) + (start kind + money (length symbol) (max_depth - d))) 0 (costs_of plain o.tree) k
+    rw deeper (sum (length symbol) (max_depth - d) _ _ (IsWithinBudget-bound (34 * (length symbol + 1) * (max_depth - d)) (17 * (length symbol + 1) + (start kind + money (length symbol) (max_depth - d))) 0 (costs_of plain o.tree) k
     (ends_pay (length symbol) (34 * (length symbol + 1) * (max_depth - d)) i (start kind + money (length symbol) (max_depth - d)) 8 _ 0 (costs_of plain o.tree) o.place (omega arith)
     (read_paid plain (34 * (length symbol + 1) * (max_depth - d)) symbol folds kind i d m value (rate (length symbol) (max_depth - d)) l))))
   where
@@ -112,7 +115,7 @@ unit_looks symbol folds plain kind i d m value k l b =
     rate : (n e : ℕ) → money n e ≤ 34 * (n + 1) * e
     rate n e = omega arith
 
-    sum : (n e w looks : ℕ) → looks ≤ 32 * (n + 1) + (start kind + money n e) + 34 * (n + 1) * e * w → looks ≤ 34 * (n + 1) * (e + 1) * (w + 1)
+    sum : (n e w looks : ℕ) → looks ≤ 17 * (n + 1) + (start kind + money n e) + 34 * (n + 1) * e * w → looks ≤ 34 * (n + 1) * (e + 1) * (w + 1)
     sum n e w looks y = omega (arith, small kind, y)
 
 -- after an error
@@ -139,6 +142,7 @@ tree_bytes false (plain_piece t rest) = tree_bytes false rest
 tree_bytes plain (node x y) = omega (arith, tree_bytes plain x, tree_bytes plain y, bytes_append (costs_of plain x) (costs_of plain y), size-append (pieces plain x) (pieces plain y))
 tree_bytes plain (looked k rest) = omega (arith, tree_bytes plain rest)
 tree_bytes plain (unprinted x rest) = omega (arith, tree_bytes plain rest, bytes_unheard (costs_of plain x), bytes_append (looks_only (costs_of plain x)) (costs_of plain rest))
+tree_bytes plain (referred t j end inside) = tree_bytes plain inside
 tree_bytes plain _ = omega arith
 
 pub rendered_bytes : (symbol : List ℕ) (form : Form) → bytes_of (costs_of form.include_hash (read_at symbol form.fold_arguments true a_path 0 0 0 true).tree) ≡ size (path_texts symbol form)

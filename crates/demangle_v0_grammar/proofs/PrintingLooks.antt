@@ -4,7 +4,7 @@ use Rattle.std.proofs.Common.{◌≡◌, ◌+◌, ◌-◌, Bool, true, false, Li
 use Rattle.std.proofs.lemmas.List.{map-append, append-nil}
 use Rattle.demangle_v0_grammar.specs.LookBudget.{LookCost, IsWithinBudget}
 use Rattle.demangle_v0_grammar.specs.Traces.{Event, events}
-use Rattle.demangle_v0_grammar.specs.Reading.{Tree, nothing, piece, plain_piece, node, looked, unprinted, costs_of, looks_only, looks}
+use Rattle.demangle_v0_grammar.specs.Reading.{Tree, nothing, piece, plain_piece, node, looked, unprinted, referred, costs_of, looks_only, looks}
 use Rattle.demangle_v0_grammar.proofs.BudgetRules.{IsWithinBudget-more}
 use Rattle.demangle_v0_grammar.proofs.PrintingSteps.{weighed}
 
@@ -45,6 +45,7 @@ pays_quiet r c plain (unprinted inside rest) ys zs f a h =
     joined r a c (events plain false inside) (events plain false rest) zs
     (pays_quiet r c plain inside (looks_only (costs_of plain rest) ++ ys) (weighed (events plain false rest) ++ zs) (λ a'. pays_quiet r c plain rest ys zs f a') a
     (split r a c (looks_only (costs_of plain inside)) (looks_only (costs_of plain rest)) ys _ (unheard_append (looks_only (costs_of plain inside)) (costs_of plain rest) ∙ ap (λ ws. ws ++ looks_only (costs_of plain rest)) (unheard_twice (costs_of plain inside))) h))
+pays_quiet r c plain (referred t j end inside) ys zs f a h = pays_quiet r c plain inside ys zs f a h
 pays_quiet r c plain _ ys zs f a h = f a (free r a c ys h.1)
 
 -- for a parse that prints
@@ -62,6 +63,7 @@ pays_events r c plain (unprinted inside rest) ys zs f a h =
     joined r a c (events plain false inside) (events plain true rest) zs
     (pays_quiet r c plain inside (costs_of plain rest ++ ys) (weighed (events plain true rest) ++ zs) (λ a'. pays_events r c plain rest ys zs f a') a
     (split r a c (looks_only (costs_of plain inside)) (costs_of plain rest) ys _ refl h))
+pays_events r c plain (referred t j end inside) ys zs f a h = (omega arith, IsWithinBudget-more r a (a - 0 + r * 0) c c 0 _ (omega arith) (omega arith) (pays_events r c plain inside ys zs f a h))
 pays_events r c plain _ ys zs f a h = (h.0, f _ h.1)
 
 pub pays_tree : (r a c : ℕ) (plain : Bool) (t : Tree) → IsWithinBudget r a (costs_of plain t) c → IsWithinBudget r a (weighed (events plain true t)) c

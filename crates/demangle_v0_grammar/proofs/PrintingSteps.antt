@@ -3,13 +3,15 @@ use Rattle.std.specs.Prelude.{map}
 use Rattle.std.proofs.Common.{◌≡◌, ℕ, Bool, true, false, List, [], ◌∷◌, ◌++◌, refl, ap, ◌∙◌}
 use Rattle.demangle_v0_grammar.specs.LookBudget.{LookCost}
 use Rattle.demangle_v0_grammar.specs.Items.{Text}
-use Rattle.demangle_v0_grammar.specs.Reading.{Tree, piece, plain_piece, node, looked, unprinted, pieces, looks, text_cost}
-use Rattle.demangle_v0_grammar.specs.Traces.{Event, prints_text, allows, text_if, texts_then, looks_then, events, texts_in, cost_of}
+use Rattle.demangle_v0_grammar.specs.References.{Move}
+use Rattle.demangle_v0_grammar.specs.Reading.{Tree, piece, plain_piece, node, looked, unprinted, referred, pieces, looks, text_cost}
+use Rattle.demangle_v0_grammar.specs.Traces.{Event, prints_text, allows, refers, text_if, moves_in, texts_then, looks_then, events, texts_in, cost_of}
 
 shown_append : (xs ys : List Event) → texts_in (xs ++ ys) ≡ texts_in xs ++ texts_in ys
 shown_append [] ys = refl
 shown_append (prints_text t ∷ xs) ys = ap (λ (zs : List Text). t ∷ zs) (shown_append xs ys)
 shown_append (allows k ∷ xs) ys = shown_append xs ys
+shown_append (refers ∷ xs) ys = shown_append xs ys
 
 both_empty : (xs ys : List Text) → xs ≡ [] → ys ≡ [] → xs ++ ys ≡ []
 both_empty xs ys e f = rw (e, f) refl
@@ -25,7 +27,34 @@ quiet_events plain (plain_piece x rest) = quiet_plain plain x (events plain fals
 quiet_events plain (node inside rest) = shown_append (events plain false inside) (events plain false rest) ∙ both_empty _ _ (quiet_events plain inside) (quiet_events plain rest)
 quiet_events plain (looked k rest) = quiet_events plain rest
 quiet_events plain (unprinted inside rest) = shown_append (events plain false inside) (events plain false rest) ∙ both_empty _ _ (quiet_events plain inside) (quiet_events plain rest)
+quiet_events plain (referred t j end inside) = quiet_events plain inside
 quiet_events plain _ = refl
+
+both_still : (xs ys : List Event) → moves_in xs ≡ [] → moves_in ys ≡ [] → moves_in (xs ++ ys) ≡ []
+both_still [] ys e f = f
+both_still (prints_text t ∷ xs) ys e f = absurd (some_none e)
+  where
+    some_none : {m : Move} {ms : List Move} → m ∷ ms ≡ [] → ⊥
+    some_none z = cc
+both_still (allows k ∷ xs) ys e f = both_still xs ys e f
+both_still (refers ∷ xs) ys e f = absurd (some_none e)
+  where
+    some_none : {m : Move} {ms : List Move} → m ∷ ms ≡ [] → ⊥
+    some_none z = cc
+
+still_plain : (plain : Bool) (t : Text) (xs : List Event) → moves_in (text_if (Rattle.std.specs.Prelude.◌&&◌ plain false) t xs) ≡ moves_in xs
+still_plain true t xs = refl
+still_plain false t xs = refl
+
+-- nor does it follow a reference
+pub quiet_moves : (plain : Bool) (t : Tree) → moves_in (events plain false t) ≡ []
+quiet_moves plain (piece x rest) = quiet_moves plain rest
+quiet_moves plain (plain_piece x rest) = still_plain plain x (events plain false rest) ∙ quiet_moves plain rest
+quiet_moves plain (node inside rest) = both_still (events plain false inside) (events plain false rest) (quiet_moves plain inside) (quiet_moves plain rest)
+quiet_moves plain (looked k rest) = quiet_moves plain rest
+quiet_moves plain (unprinted inside rest) = both_still (events plain false inside) (events plain false rest) (quiet_moves plain inside) (quiet_moves plain rest)
+quiet_moves plain (referred t j end inside) = quiet_moves plain inside
+quiet_moves plain _ = refl
 
 shown_plain : (plain : Bool) (t : Text) (rest : Tree) (xs : List Event) → texts_in xs ≡ pieces plain rest → texts_in (text_if (Rattle.std.specs.Prelude.◌&&◌ plain true) t xs) ≡ pieces plain (plain_piece t rest)
 shown_plain true t rest xs e = ap (λ (zs : List Text). t ∷ zs) e
@@ -38,6 +67,7 @@ shown_events plain (plain_piece x rest) = shown_plain plain x rest (events plain
 shown_events plain (node inside rest) = shown_append (events plain true inside) (events plain true rest) ∙ (ap (λ xs. xs ++ texts_in (events plain true rest)) (shown_events plain inside) ∙ ap (λ ys. pieces plain inside ++ ys) (shown_events plain rest))
 shown_events plain (looked k rest) = shown_events plain rest
 shown_events plain (unprinted inside rest) = shown_append (events plain false inside) (events plain true rest) ∙ (ap (λ xs. xs ++ texts_in (events plain true rest)) (quiet_events plain inside) ∙ shown_events plain rest)
+shown_events plain (referred t j end inside) = shown_events plain inside
 shown_events plain _ = refl
 
 -- the same as costs

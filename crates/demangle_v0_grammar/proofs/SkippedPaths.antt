@@ -2,11 +2,12 @@
 use Rattle.std.specs.Prelude.{ℕ, ◌+◌}
 use Rattle.std.proofs.Common.{◌≡◌, Bool, false, List, [], ◌∷◌, ◌++◌, Some, None, refl, ap, ◌∙◌}
 use Rattle.demangle_v0_grammar.specs.LookTotals.{total}
-use Rattle.demangle_v0_grammar.specs.Traces.{Event, prints_text, allows, events, texts_in, looks_then, Trace, of, and_then, with_looks, context_at}
+use Rattle.demangle_v0_grammar.specs.Traces.{Event, prints_text, allows, refers, events, moves_in, looks_then, Trace, of, and_then, with_looks, context_at}
 use Rattle.demangle_v0_grammar.specs.Items.{a_path, Items, skip}
 use Rattle.demangle_v0_grammar.specs.Reading.{Form, Place, Outcome, Context, parse, level_of, levels}
 use Rattle.demangle_v0_grammar.specs.LookTotals.{allowed_in}
-use Rattle.demangle_v0_grammar.proofs.PrintingSteps.{quiet_events}
+use Rattle.demangle_v0_grammar.specs.References.{says, follows}
+use Rattle.demangle_v0_grammar.proofs.PrintingSteps.{quiet_moves}
 use Rattle.demangle_v0_grammar.proofs.UnprintedTraces.{silent_unit}
 
 -- the looks that are allowed, in sequence
@@ -14,23 +15,26 @@ abbrev pub allowances : List Event → List ℕ
 allowances [] = []
 allowances (prints_text t ∷ xs) = allowances xs
 allowances (allows k ∷ xs) = k ∷ allowances xs
+allowances (refers ∷ xs) = allowances xs
 
 pub total_allowances : (xs : List Event) → total (allowances xs) ≡ allowed_in xs
 total_allowances [] = refl
 total_allowances (prints_text t ∷ xs) = total_allowances xs
 total_allowances (allows k ∷ xs) = ap (λ n. k + n) (total_allowances xs)
+total_allowances (refers ∷ xs) = total_allowances xs
 
 some_none : {A : Type 0} (x : A) (xs : List A) → x ∷ xs ≡ [] → ⊥
 some_none x xs e = cc
 
-only_allowed : (xs ys : List Event) → texts_in xs ≡ [] → xs ++ ys ≡ looks_then (allowances xs) ys
+only_allowed : (xs ys : List Event) → moves_in xs ≡ [] → xs ++ ys ≡ looks_then (allowances xs) ys
 only_allowed [] ys e = refl
-only_allowed (prints_text t ∷ xs) ys e = absurd (some_none t (texts_in xs) e)
+only_allowed (prints_text t ∷ xs) ys e = absurd (some_none (says t) (moves_in xs) e)
 only_allowed (allows k ∷ xs) ys e = ap (λ zs. allows k ∷ zs) (only_allowed xs ys e)
+only_allowed (refers ∷ xs) ys e = absurd (some_none follows (moves_in xs) e)
 
 -- a parse that is not printed allows looks, and nothing more
 pub silent_allowed : (form : Form) (o : Outcome) (k : Place → Bool → Trace) → and_then (of form false o) k ≡ with_looks (allowances (of form false o).events) (k o.place o.is_bracket_open)
-silent_allowed form o k = let g = k o.place o.is_bracket_open in ap (λ xs. record { events = xs; place = g.place; is_bracket_open = g.is_bracket_open }) (only_allowed (events form.include_hash false o.tree) g.events (quiet_events form.include_hash o.tree))
+silent_allowed form o k = let g = k o.place o.is_bracket_open in ap (λ xs. record { events = xs; place = g.place; is_bracket_open = g.is_bracket_open }) (only_allowed (events form.include_hash false o.tree) g.events (quiet_moves form.include_hash o.tree))
 
 -- a path that is not printed, with `left` depths left
 abbrev pub path_trace : Form → List ℕ → ℕ → Bool → ℕ → ℕ → Trace

@@ -22,13 +22,13 @@ pub there_placed : (symbol : List ℕ) (b i : ℕ) → is_byte symbol i b ≡ tr
 there_placed symbol b i e = let w : i < length symbol = is_byte_within symbol i b e in omega (arith, w)
 
 -- after a primitive
-after_word : {A : Type 0} (symbol : List ℕ) (i j l e k : ℕ) (q : Read A) → Placed (i + 1) symbol q → (v : A) → q ≡ Some (v, l) → (l ≤ length symbol → (l ≤ j) × (j ≤ length symbol) × (e ≤ k + 24 + 32 * (j - l))) → (i ≤ j) × (j ≤ length symbol) × (e ≤ k + 32 * (j - i))
+after_word : {A : Type 0} (symbol : List ℕ) (i j l e k : ℕ) (q : Read A) → Placed (i + 1) symbol q → (v : A) → q ≡ Some (v, l) → (l ≤ length symbol → (l ≤ j) × (j ≤ length symbol) × (e ≤ k + 9 + 17 * (j - l))) → (i ≤ j) × (j ≤ length symbol) × (e ≤ k + 17 * (j - i))
 after_word symbol i j l e k q p v u h =
     let w : (i + 1 ≤ l) × (l ≤ length symbol) = placed (i + 1) symbol q p v l u in
-    let y : (l ≤ j) × (j ≤ length symbol) × (e ≤ k + 24 + 32 * (j - l)) = h w.1 in (omega (arith, w.0, y.0), y.1, omega (arith, w.0, y.0, y.2))
+    let y : (l ≤ j) × (j ≤ length symbol) × (e ≤ k + 9 + 17 * (j - l)) = h w.1 in (omega (arith, w.0, y.0), y.1, omega (arith, w.0, y.0, y.2))
 
 -- items that end with a larger budget than they started with read bytes
-pub grows : {symbol : List ℕ} {w : Rule} {p : Items} {d m i j : ℕ} (c : Bool) (r e k : ℕ) (g : Bool) → Fits c r e k g p → Spells symbol w d m p i j → i ≤ length symbol → (i ≤ j) × (j ≤ length symbol) × (e ≤ k + 32 * (j - i))
+pub grows : {symbol : List ℕ} {w : Rule} {p : Items} {d m i j : ℕ} (c : Bool) (r e k : ℕ) (g : Bool) → Fits c r e k g p → Spells symbol w d m p i j → i ≤ length symbol → (i ≤ j) × (j ≤ length symbol) × (e ≤ k + 17 * (j - i))
 grows c r e k g f end_ b = (omega arith, b, omega (arith, f))
 grows c r e k g f (say_ a) b = grows _ _ _ _ _ f a b
 grows c r e k g f (plain_ a) b = grows _ _ _ _ _ f a b

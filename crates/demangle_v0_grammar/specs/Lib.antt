@@ -6,6 +6,8 @@ pub mod Reading
 pub mod Spelling
 pub mod V0
 pub mod ValidationLooks
+pub mod Again
+pub mod References
 -- Internal.
 pub mod Binders
 pub mod LookTotals

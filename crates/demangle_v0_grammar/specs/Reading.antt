@@ -20,6 +20,9 @@ pub data Tree : Type 0 where
   looked : ℕ → Tree → Tree
   -- a production that is read and not printed
   unprinted : Tree → Tree → Tree
+  -- what a reference leads to: the place that it names, the place after the reference, the place after what is read
+  -- there, and its output
+  referred : ℕ → Option ℕ → Option ℕ → Tree → Tree
   invalid_syntax too_deep after_error : Tree
 
 -- the texts that are printed, in the plain form or in the other
@@ -30,6 +33,7 @@ pieces plain (plain_piece t rest) = if plain then t ∷ pieces plain rest else p
 pieces plain (node inside rest) = pieces plain inside ++ pieces plain rest
 pieces plain (looked k rest) = pieces plain rest
 pieces plain (unprinted inside rest) = pieces plain rest
+pieces plain (referred t j end inside) = pieces plain inside
 pieces plain invalid_syntax = codes "{invalid syntax}" ∷ []
 pieces plain too_deep = codes "{recursion limit reached}" ∷ []
 pieces plain after_error = codes "?" ∷ []
@@ -42,6 +46,7 @@ HasNoError (plain_piece t rest) = HasNoError rest
 HasNoError (node inside rest) = HasNoError inside × HasNoError rest
 HasNoError (looked k rest) = HasNoError rest
 HasNoError (unprinted inside rest) = HasNoError rest
+HasNoError (referred t j end inside) = HasNoError inside
 HasNoError invalid_syntax = ⊥
 HasNoError too_deep = ⊥
 HasNoError after_error = ⊥
@@ -64,6 +69,7 @@ costs_of plain (plain_piece t rest) = if plain then text_cost t ∷ costs_of pla
 costs_of plain (node inside rest) = costs_of plain inside ++ costs_of plain rest
 costs_of plain (looked k rest) = looks k ∷ costs_of plain rest
 costs_of plain (unprinted inside rest) = looks_only (costs_of plain inside) ++ costs_of plain rest
+costs_of plain (referred t j end inside) = costs_of plain inside
 costs_of plain invalid_syntax = text_cost (codes "{invalid syntax}") ∷ []
 costs_of plain too_deep = text_cost (codes "{recursion limit reached}") ∷ []
 costs_of plain after_error = text_cost (codes "?") ∷ []
@@ -196,7 +202,7 @@ followed_open o rest = with_tree (node o.tree) (rest o.is_bracket_open o.place)
 
 -- the target, if references are followed; reading then continues after the reference itself
 abbrev pub target_read : Bool → (ℕ → Outcome) → ℕ → Place → Outcome
-target_read true reads t end = let o = reads t in record { tree = node o.tree nothing; place = end; is_bracket_open = o.is_bracket_open }
+target_read true reads t end = let o = reads t in record { tree = node (referred t end o.place o.tree) nothing; place = end; is_bracket_open = o.is_bracket_open }
 target_read false reads t end = at_place end
 
 -- a target is one depth deeper, if there is one

@@ -1,7 +1,7 @@
 //! The outputs to which the parser sends its tokens: a sink, or none.
 ghost use Rattle.std.specs.Prelude.{◌≡◌, ◌+◌, ◌≤◌, ℕ, List, Bool, Result, true, false, IsAscii, IsOk, OnOk};
 ghost use Rattle.demangle_v0_tokens.specs.Tokens.{texts_of, print_looks};
-ghost use Rattle.demangle_sink.specs.Limit.{Prints, Ready};
+ghost use Rattle.demangle_sink.specs.Limit.{Follows, Prints, Ready};
 ghost use Rattle.demangle_v0_tokens.specs.Tokens.{IsTokenWithin};
 ghost use Rattle.demangle_sink.specs.declared.SinkRefused.{SinkRefused};
 
@@ -23,6 +23,9 @@ pub trait Output {
 
     // Relates the output before, the texts of a token, the result, and the output after.
     ghost prints: { Self → List (List ℕ) → Result (Unit {0}) SinkRefused → Self → Type 0 };
+
+    // Relates the output before a reference is followed, the result, and the output after.
+    ghost follows: { Self → Result (Unit {0}) SinkRefused → Self → Type 0 };
 
     /// Returns `true` if tokens are printed.
     fn is_printing(&self) -> bool
@@ -48,6 +51,16 @@ pub trait Output {
         ensures no_output { is_printed ≡ false → IsOk result }
         ensures grows { looks.old ≤ looks.new }
         ensures most { looks.new ≤ looks.old + print_looks token.now };
+
+    /// Counts a reference that is followed.
+    ///
+    /// # Errors
+    ///
+    /// Returns `SinkRefused` if as many were followed as the output allows.
+    fn follow(&mut self) -> Result<(), SinkRefused>
+        requires ready { ready self.old }
+        ensures follows { follows self.old result self.new }
+        ensures ready { OnOk result (ready self.new) };
 
     /// Prints the token of a syntax error.
     ///
@@ -81,6 +94,8 @@ impl Output for NoOutput {
 
     ghost prints = { λ v texts result w. Unit {0} };
 
+    ghost follows = { λ v result w. Unit {0} };
+
     #[inline(always)]
     fn is_printing(&self) -> bool {
         false
@@ -93,6 +108,11 @@ impl Output for NoOutput {
         _token: &Token,
         _looks: &mut Looks,
     ) -> Result<(), SinkRefused> {
+        Ok(())
+    }
+
+    #[inline(always)]
+    fn follow(&mut self) -> Result<(), SinkRefused> {
         Ok(())
     }
 
@@ -114,6 +134,8 @@ impl<'s, S: TextSink> Output for SizeLimitedFmtAdapter<'s, S> {
 
     ghost prints = { λ v texts result w. Prints S.TextSink v texts result w };
 
+    ghost follows = { λ v result w. Follows v result w };
+
     #[inline(always)]
     fn is_printing(&self) -> bool {
         true
@@ -127,6 +149,11 @@ impl<'s, S: TextSink> Output for SizeLimitedFmtAdapter<'s, S> {
         looks: &mut Looks,
     ) -> Result<(), SinkRefused> {
         source.render(token, self, looks)
+    }
+
+    #[inline(always)]
+    fn follow(&mut self) -> Result<(), SinkRefused> {
+        SizeLimitedFmtAdapter::follow(self)
     }
 
     #[inline(always)]

@@ -13,7 +13,7 @@ use crate::inputs::{LineReader, STDIN_NAME, SourceReader};
 use crate::program::hint::note_file;
 use crate::program::output::{Filtering, SourceParts};
 use crate::same_file::input_that_is_output;
-use rustc_demangle::Format;
+use rustc_demangle::{Form, Format};
 use std::alloc::{AllocError, Global};
 use std::fs::Files;
 use std::io;
@@ -146,16 +146,20 @@ fn add_default(sources: &mut Vec<InputSource<'_>>) -> Result<(), AllocError>
 
 /// Returns the settings that the arguments request.
 fn settings_of(alloc: Global, request: &Request<'_>) -> Settings
-    ensures hash { result.format.include_hash ≡ request.now.include_hash }
-    ensures fold { result.format.fold_arguments ≡ request.now.fold_arguments }
+    ensures hash { result.format.form.include_hash ≡ request.now.include_hash }
+    ensures fold { result.format.form.fold_arguments ≡ request.now.fold_arguments }
     ensures limit { result.format.limit ≡ request.now.limit }
 {
+    let form = Form {
+        include_hash: request.include_hash,
+        fold_arguments: request.fold_arguments,
+    };
     Settings {
         alloc,
         format: Format {
-            include_hash: request.include_hash,
-            fold_arguments: request.fold_arguments,
+            form,
             limit: request.limit,
+            references: None,
         },
     }
 }

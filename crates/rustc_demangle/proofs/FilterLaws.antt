@@ -6,7 +6,7 @@ use Rattle.std.proofs.lemmas.List.{take-append-drop}
 use Rattle.std.proofs.lemmas.List.Sums.{take_while-cons}
 use Rattle.std.specs.List.{prefix_len, take_while, list_all}
 use Rattle.std.proofs.lemmas.Bool.{true≢false}
-use Rattle.demangle_v0_grammar.specs.Reading.{form}
+use Rattle.rustc_demangle.specs.Shape.{form}
 use Rattle.rustc_demangle.specs.Stripped.{stripped}
 use Rattle.rustc_demangle.specs.Symbols.{IsSymbol, pieces_of, printed}
 use Rattle.rustc_demangle.proofs.SymbolLemmas.{symbol-pieces, pieces-symbol}

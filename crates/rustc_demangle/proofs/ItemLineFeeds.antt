@@ -8,7 +8,7 @@ use Rattle.demangle_symbol.specs.Digits.{is_byte}
 use Rattle.demangle_symbol.specs.Primitives.{Name, Read, byte_at, namespace_at, integer_at, optional_at, backref_at, identifier_at, nibbles_at}
 use Rattle.demangle_symbol.specs.Names.{name_pieces}
 use Rattle.demangle_v0_grammar.specs.Items.{Text, Kind, a_path, a_trait_path, Items, done, invalid, print, print_plain, byte, namespace, integer, optional, identifier, nibbles, peek, next, if_ok, until_end, raise, unit, child, skip, folded, target, lifetime, binder, leave_open, dyn_trait, bindings}
-use Rattle.demangle_v0_grammar.specs.Reading.{Tree, nothing, piece, plain_piece, node, looked, unprinted, invalid_syntax, too_deep, after_error, pieces, Place, Outcome, Level, Context, at_place, with_tree, followed_by, folded_by, primitive_outcome, primitive, peek_outcome, byte_choice, one_level_deeper, repetitions, unit_outcome, unprinted_path, all_pieces, angle_if_open, binding_separator, name_equals, bound_by, target_read, target_of, letter_of, lifetime_at, new_lifetimes, binder_at, parse}
+use Rattle.demangle_v0_grammar.specs.Reading.{Tree, nothing, piece, plain_piece, node, looked, unprinted, referred, invalid_syntax, too_deep, after_error, pieces, Place, Outcome, Level, Context, at_place, with_tree, followed_by, folded_by, primitive_outcome, primitive, peek_outcome, byte_choice, one_level_deeper, repetitions, unit_outcome, unprinted_path, all_pieces, angle_if_open, binding_separator, name_equals, bound_by, target_read, target_of, letter_of, lifetime_at, new_lifetimes, binder_at, parse}
 use Rattle.rustc_demangle.proofs.LineFeeds.{line_feeds-append, line_feeds-concat, line_feeds-other}
 use Rattle.rustc_demangle.proofs.PrimitiveLineFeeds.{AreClear, number_clear, namespace_clear, nibbles_clear, identifier_clear, name_clear}
 
@@ -20,6 +20,7 @@ IsClear (plain_piece t rest) = (line_feeds t ≡ 0) × IsClear rest
 IsClear (node inside rest) = IsClear inside × IsClear rest
 IsClear (looked k rest) = IsClear rest
 IsClear (unprinted inside rest) = IsClear rest
+IsClear (referred t j end inside) = IsClear inside
 IsClear invalid_syntax = Unit {0}
 IsClear too_deep = Unit {0}
 IsClear after_error = Unit {0}
@@ -32,6 +33,7 @@ clear_pieces false (plain_piece t rest) h = clear_pieces false rest h.1
 clear_pieces plain (node inside rest) h = omega (arith, clear_pieces plain inside h.0, clear_pieces plain rest h.1, line_feeds-concat (pieces plain inside) (pieces plain rest))
 clear_pieces plain (looked k rest) h = clear_pieces plain rest h
 clear_pieces plain (unprinted inside rest) h = clear_pieces plain rest h
+clear_pieces plain (referred t j end inside) h = clear_pieces plain inside h
 clear_pieces plain invalid_syntax h = refl
 clear_pieces plain too_deep h = refl
 clear_pieces plain after_error h = refl

@@ -30,3 +30,4 @@ pub mod V0LineFeeds
 pub mod WholeText
 pub mod PrimitiveLineFeeds
 pub mod MemoLemmas
+pub mod AllReferences

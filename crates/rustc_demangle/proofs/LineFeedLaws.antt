@@ -19,11 +19,12 @@ use Rattle.demangle_legacy.proofs.LegacyLaws.{legacy_spelled}
 use Rattle.rustc_demangle.proofs.SymbolLemmas.{symbol-pieces, pieces-legacy, pieces-v0}
 use Rattle.demangle_v0_grammar.proofs.V0Reading.{v0_is_read}
 use Rattle.rustc_demangle.proofs.V0LineFeeds.{line_feeds-rendered}
-use Rattle.demangle_v0_grammar.specs.Reading.{form, path_texts}
+use Rattle.rustc_demangle.proofs.AllReferences.{unlimited_pieces}
+use Rattle.rustc_demangle.specs.Shape.{form, path_texts, legacy_pieces}
 use Rattle.demangle_sink.specs.Cut.{size, prefix_within, cut, marker}
 use Rattle.rustc_demangle.specs.Lines.{lines, line_feeds}
 use Rattle.demangle_legacy.specs.Legacy.{IsElements, IsLegacy}
-use Rattle.demangle_legacy.specs.Unescaped.{escape_of_code, escape_of_digits, escape_of, lower_hex, leading_unit, pieces_from, unescaped, is_hash, printed_elements, following_pieces, joined_pieces, legacy_pieces, is_lower_hex, is_dollar, is_special}
+use Rattle.demangle_legacy.specs.Unescaped.{escape_of_code, escape_of_digits, escape_of, lower_hex, leading_unit, pieces_from, unescaped, is_hash, printed_elements, following_pieces, joined_pieces, is_lower_hex, is_dollar, is_special}
 use Rattle.rustc_demangle.proofs.LineFeeds.{line_feeds-append, line_feeds-concat, line_feeds-cons, line_feeds-drop, line_feeds-other, line_feeds-character}
 
 cases : (b : Bool) → (b ≡ true) ⊎ (b ≡ false)
@@ -215,7 +216,7 @@ line_feeds-symbol hash text read e none = go (symbol-pieces (form hash false) te
       let same : read ≡ (path_texts inner (form hash false), suffix) = ap read_of (sym e ∙ pieces-v0 (form hash false) text inner suffix (v0_is_read text inner suffix v0) allowed) in
       let part = v0.5 in
       let within : line_feeds inner ≡ 0 = omega (arith, none, ap line_feeds v0.1, line_feeds-append v0.0 inner) in (
-        ap (λ r. line_feeds (concat r.0)) same ∙ line_feeds-rendered inner hash within,
+        ap (λ r. line_feeds (concat r.0)) same ∙ (ap (λ (ts : List (List ℕ)). line_feeds (concat ts)) (unlimited_pieces inner hash false) ∙ line_feeds-rendered inner hash within),
         omega (arith, within, ap (λ r. line_feeds r.1) same, ap line_feeds part.2, line_feeds-drop part.0 inner),
       )
 

@@ -9,9 +9,8 @@ use Rattle.std.proofs.lemmas.List.{append_assoc, take-append-drop, drop_at, drop
 use Rattle.demangle_sink.specs.Cut.{size, cut}
 use Rattle.demangle_sink.proofs.CutLemmas.{size-append}
 use Rattle.demangle_legacy.specs.Legacy.{IsLegacyPrefix}
-use Rattle.demangle_legacy.specs.Unescaped.{legacy_pieces}
+use Rattle.rustc_demangle.specs.Shape.{legacy_pieces, form, path_texts}
 use Rattle.demangle_legacy.proofs.LegacyLaws.{legacy_spelled}
-use Rattle.demangle_v0_grammar.specs.Reading.{form, path_texts}
 use Rattle.demangle_v0_grammar.specs.V0.{IsV0Prefix, v0_inner}
 use Rattle.demangle_v0_grammar.proofs.V0Reading.{v0_is_read, ascii_all, all_ascii, prefix_inner}
 use Rattle.rustc_demangle.specs.PathEnds.{path_len_of, v0_ascii, handed_with_path_len}

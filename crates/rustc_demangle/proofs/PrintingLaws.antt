@@ -10,8 +10,8 @@ use Rattle.demangle_legacy.specs.Legacy.{IsLegacy, legacy_of}
 use Rattle.rustc_demangle.specs.Stripped.{is_allowed}
 use Rattle.rustc_demangle.specs.Symbols.{IsSymbol, form_of, pieces_in, handed_in, kept_in, unfolded, handed}
 use Rattle.rustc_demangle.specs.declared.format.Format.{Format}
-use Rattle.demangle_v0_grammar.specs.Reading.{form}
-use Rattle.demangle_legacy.specs.Unescaped.{unescaped, is_hash, printed_elements, joined_pieces, following_pieces, legacy_pieces}
+use Rattle.rustc_demangle.specs.Shape.{form, legacy_pieces}
+use Rattle.demangle_legacy.specs.Unescaped.{unescaped, is_hash, printed_elements, joined_pieces, following_pieces}
 use Rattle.demangle_sink.proofs.CutLemmas.{size-append, fitting-within}
 use Rattle.demangle_sink.proofs.PrintsLemmas.{cut-within, cut-past}
 use Rattle.demangle_legacy.proofs.LegacyLaws.{legacy_spelled}

@@ -3,12 +3,11 @@ use Rattle.std.proofs.Common.{◌≡◌, ◌⊎◌, inl, inr, ℕ, true, List, [
 use Rattle.std.specs.Option.{option_map_or}
 use Rattle.demangle_sink.specs.Cut.{cut, kept}
 use Rattle.demangle_legacy.specs.Legacy.{IsLegacy, IsLegacyPrefix}
-use Rattle.demangle_v0_grammar.specs.Reading.{Form, path_texts}
+use Rattle.rustc_demangle.specs.Shape.{LimitedForm, path_texts, legacy_pieces}
 use Rattle.rustc_demangle.specs.Stripped.{is_allowed}
 use Rattle.rustc_demangle.specs.Filtered.{starts_run}
 use Rattle.rustc_demangle.specs.Symbols.{IsSymbol, form_of, pieces_in, handed_in, kept_in}
 use Rattle.rustc_demangle.specs.declared.format.Format.{Format}
-use Rattle.demangle_legacy.specs.Unescaped.{legacy_pieces}
 use Rattle.demangle_v0_grammar.specs.V0.{IsV0, IsV0Prefix}
 use Rattle.demangle_legacy.proofs.LegacyLaws.{legacy_spelled}
 use Rattle.rustc_demangle.proofs.SymbolLemmas.{no_legacy, pieces-legacy, pieces-v0, none≢some}
@@ -20,11 +19,11 @@ handed_of text format read e = ap (λ o. option_map_or (λ (r : List (List ℕ) 
 kept_by : (text : List ℕ) (format : Format) (read : List (List ℕ) × List ℕ) → pieces_in (form_of format) text ≡ Some read → kept_in text format ≡ kept read.0 format.limit
 kept_by text format read e = ap (λ o. option_map_or (λ (r : List (List ℕ) × List ℕ). kept r.0 format.limit) o 0) e
 
-pieces_spelled : (form : Form) (text : List ℕ) (elements : List (List ℕ)) (suffix : List ℕ) → IsLegacy text elements suffix → is_allowed suffix ≡ true
+pieces_spelled : (form : LimitedForm) (text : List ℕ) (elements : List (List ℕ)) (suffix : List ℕ) → IsLegacy text elements suffix → is_allowed suffix ≡ true
     → pieces_in form text ≡ Some (legacy_pieces form elements, suffix)
 pieces_spelled form text elements suffix is allowed = pieces-legacy form text elements suffix (legacy_spelled text elements suffix is) allowed
 
-pieces_rendered : (form : Form) (text inner suffix : List ℕ) → IsV0 text inner suffix → is_allowed suffix ≡ true
+pieces_rendered : (form : LimitedForm) (text inner suffix : List ℕ) → IsV0 text inner suffix → is_allowed suffix ≡ true
     → pieces_in form text ≡ Some (path_texts inner form, suffix)
 pieces_rendered form text inner suffix is allowed = pieces-v0 form text inner suffix (v0_is_read text inner suffix is) allowed
 

@@ -8,11 +8,10 @@ use Rattle.std.proofs.lemmas.Str.Ascii.{IsAscii-nil, IsAscii-cons}
 use Rattle.std.proofs.lemmas.Bool.Decides.{nat_tests}
 use Rattle.demangle_sink.specs.Cut.{size}
 use Rattle.demangle_legacy.specs.Legacy.{IsLegacyPrefix}
-use Rattle.demangle_v0_grammar.specs.Reading.{path_texts}
+use Rattle.rustc_demangle.specs.Shape.{path_texts, legacy_pieces}
 use Rattle.rustc_demangle.specs.Stripped.{stripped, is_thin_lto}
 use Rattle.rustc_demangle.specs.Symbols.{IsSymbol, form_of, handed_in, handed, unfolded}
 use Rattle.rustc_demangle.specs.declared.format.Format.{Format}
-use Rattle.demangle_legacy.specs.Unescaped.{legacy_pieces}
 use Rattle.demangle_v0_grammar.specs.V0.{IsV0Prefix}
 use Rattle.demangle_legacy.proofs.LegacyLaws.{legacy_spelled}
 use Rattle.rustc_demangle.proofs.PrintingLaws.{size-handed}

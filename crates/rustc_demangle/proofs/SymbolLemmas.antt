@@ -7,15 +7,17 @@ use Rattle.std.proofs.lemmas.Bool.{true≢false}
 use Rattle.demangle_sink.specs.Cut.{cut, kept}
 use Rattle.demangle_legacy.specs.Legacy.{IsElements, inner_of, legacy_of, elements_of}
 use Rattle.rustc_demangle.specs.Stripped.{is_allowed}
-use Rattle.demangle_legacy.specs.Unescaped.{legacy_pieces}
-use Rattle.demangle_v0_grammar.specs.Reading.{Form, form, path_texts}
+use Rattle.rustc_demangle.specs.Shape.{legacy_pieces, LimitedForm, form, is_all, texts_within, path_texts}
+use Rattle.demangle_v0_grammar.specs.Again.{path_again}
 use Rattle.demangle_v0_grammar.specs.V0.{IsV0, IsV0Prefix, v0_of}
-use Rattle.rustc_demangle.specs.Symbols.{IsLegacySymbol, IsV0Symbol, IsSymbol, form_of, kept_in, if_allowed, read_in, pieces_in, handed_in, PrintingLooksIn}
+use Rattle.rustc_demangle.specs.Symbols.{IsLegacySymbol, IsV0Symbol, IsSymbol, form_of, kept_in, if_allowed, read_in, pieces_in, handed_in, again_in, PrintingLooksIn}
 use Rattle.rustc_demangle.specs.declared.format.Format.{Format}
-use Rattle.rustc_demangle.specs.Style.{style_pieces, style_looks, style_least, IsReadAs, HasNoStyle, HasStyle, IsStyled}
+use Rattle.rustc_demangle.specs.Style.{style_pieces, style_len, style_looks, style_looks_again, style_least, IsReadAs, HasNoStyle, HasStyle, IsStyled}
 use Rattle.rustc_demangle.specs.declared.value.DemangleStyle.{DemangleStyle}
 use Rattle.rustc_demangle.specs.declared.value.DemangleStyle.TheVariants.{Legacy, V0}
 use Rattle.demangle_legacy.proofs.LegacyLaws.{legacy_no_prefix, legacy_read, legacy_spelled}
+use Rattle.rustc_demangle.proofs.AllReferences.{kept_marked, few_looks}
+use Rattle.std.specs.Prelude.{IfSome}
 use Rattle.demangle_v0_grammar.proofs.V0Reading.{read_is_v0, v0_is_read}
 
 pub styled-none : (style : Option DemangleStyle) (text suffix : List ℕ) → IsStyled style text suffix → style ≡ None → HasNoStyle text
@@ -40,21 +42,21 @@ no_legacy text inner suffix is = legacy_no_prefix text (sym (ap inner_of is.1 �
   go prefix (inr (inl e)) = ap (λ p. inner_of (p ++ inner)) e
   go prefix (inr (inr e)) = ap (λ p. inner_of (p ++ inner)) e
 
-abbrev legacy_parts : Form → List (List ℕ) × List ℕ → List (List ℕ) × List ℕ
+abbrev legacy_parts : LimitedForm → List (List ℕ) × List ℕ → List (List ℕ) × List ℕ
 legacy_parts form read = (legacy_pieces form read.0, read.1)
 
-abbrev v0_parts : Form → List ℕ × List ℕ → List (List ℕ) × List ℕ
+abbrev v0_parts : LimitedForm → List ℕ × List ℕ → List (List ℕ) × List ℕ
 v0_parts form read = (path_texts read.0 form, read.1)
 
 -- the pieces of a legacy symbol
-pub pieces-legacy : (form : Form) (text : List ℕ) (elements : List (List ℕ)) (suffix : List ℕ) → legacy_of text ≡ Some (elements, suffix) → is_allowed suffix ≡ true
+pub pieces-legacy : (form : LimitedForm) (text : List ℕ) (elements : List (List ℕ)) (suffix : List ℕ) → legacy_of text ≡ Some (elements, suffix) → is_allowed suffix ≡ true
     → pieces_in form text ≡ Some (legacy_pieces form elements, suffix)
 pieces-legacy form text elements suffix e allowed =
     ap (λ read. if_allowed (option_or (option_map (legacy_parts form) read) (option_map (v0_parts form) (v0_of text)))) e
     ∙ ap (λ b. cond b (Some (legacy_pieces form elements, suffix)) None) allowed
 
 -- the pieces of a v0 symbol
-pub pieces-v0 : (form : Form) (text inner suffix : List ℕ) → v0_of text ≡ Some (inner, suffix) → is_allowed suffix ≡ true
+pub pieces-v0 : (form : LimitedForm) (text inner suffix : List ℕ) → v0_of text ≡ Some (inner, suffix) → is_allowed suffix ≡ true
     → pieces_in form text ≡ Some (path_texts inner form, suffix)
 pieces-v0 form text inner suffix e allowed =
     ap (λ read. if_allowed (option_or (option_map (legacy_parts form) read) (option_map (v0_parts form) (v0_of text)))) (no_legacy text inner suffix (read_is_v0 text inner suffix e))
@@ -62,17 +64,17 @@ pieces-v0 form text inner suffix e allowed =
     ∙ ap (λ b. cond b (Some (path_texts inner form, suffix)) None) allowed
 
 -- a text that no scheme accepts, or with another suffix, is one piece
-pub no_pieces : (form : Form) (text : List ℕ) → legacy_of text ≡ None → v0_of text ≡ None → pieces_in form text ≡ None
+pub no_pieces : (form : LimitedForm) (text : List ℕ) → legacy_of text ≡ None → v0_of text ≡ None → pieces_in form text ≡ None
 no_pieces form text legacy v0 =
     ap (λ read. if_allowed (option_or (option_map (legacy_parts form) read) (option_map (v0_parts form) (v0_of text)))) legacy
     ∙ ap (λ read. if_allowed (option_map (v0_parts form) read)) v0
 
-pub no_pieces-legacy : (form : Form) (text : List ℕ) (elements : List (List ℕ)) (suffix : List ℕ) → legacy_of text ≡ Some (elements, suffix) → is_allowed suffix ≡ false → pieces_in form text ≡ None
+pub no_pieces-legacy : (form : LimitedForm) (text : List ℕ) (elements : List (List ℕ)) (suffix : List ℕ) → legacy_of text ≡ Some (elements, suffix) → is_allowed suffix ≡ false → pieces_in form text ≡ None
 no_pieces-legacy form text elements suffix e other =
     ap (λ read. if_allowed (option_or (option_map (legacy_parts form) read) (option_map (v0_parts form) (v0_of text)))) e
     ∙ ap (λ b. cond b (Some (legacy_pieces form elements, suffix)) None) other
 
-pub no_pieces-v0 : (form : Form) (text inner suffix : List ℕ) → v0_of text ≡ Some (inner, suffix) → is_allowed suffix ≡ false → pieces_in form text ≡ None
+pub no_pieces-v0 : (form : LimitedForm) (text inner suffix : List ℕ) → v0_of text ≡ Some (inner, suffix) → is_allowed suffix ≡ false → pieces_in form text ≡ None
 no_pieces-v0 form text inner suffix e other =
     ap (λ read. if_allowed (option_or (option_map (legacy_parts form) read) (option_map (v0_parts form) (v0_of text)))) (no_legacy text inner suffix (read_is_v0 text inner suffix e))
     ∙ ap (λ read. if_allowed (option_map (v0_parts form) read)) e
@@ -82,7 +84,7 @@ pub none≢some : {x : List (List ℕ) × List ℕ} → None ≡ Some x → ⊥
 none≢some h = cc
 
 -- a text that has pieces is a symbol
-pub symbol-pieces : (form : Form) (text : List ℕ) (r : List (List ℕ) × List ℕ) → pieces_in form text ≡ Some r → IsSymbol text
+pub symbol-pieces : (form : LimitedForm) (text : List ℕ) (r : List (List ℕ) × List ℕ) → pieces_in form text ≡ Some r → IsSymbol text
 symbol-pieces form text r e = let h = allowed-some (read_in form text) r e in go (legacy_of text) (v0_of text) refl refl h.0 h.1 where
   suffix_is : (x y : List (List ℕ) × List ℕ) → Some x ≡ Some y → x.1 ≡ y.1
   suffix_is x y e = ap (λ (o : Option (List (List ℕ) × List ℕ)). option_map_or (λ p. p.1) o []) e
@@ -94,14 +96,14 @@ symbol-pieces form text r e = let h = allowed-some (read_in form text) r e in go
   go None None legacy v0 e allowed = cc
 
 -- a symbol has pieces
-pub pieces-symbol : (form : Form) (text : List ℕ) → IsSymbol text → (r : List (List ℕ) × List ℕ) × (pieces_in form text ≡ Some r)
+pub pieces-symbol : (form : LimitedForm) (text : List ℕ) → IsSymbol text → (r : List (List ℕ) × List ℕ) × (pieces_in form text ≡ Some r)
 pieces-symbol form text (inl (elements, suffix, legacy, allowed)) =
     ((legacy_pieces form elements, suffix), pieces-legacy form text elements suffix (legacy_spelled text elements suffix legacy) allowed)
 pieces-symbol form text (inr (inner, suffix, v0, allowed)) =
     ((path_texts inner form, suffix), pieces-v0 form text inner suffix (v0_is_read text inner suffix v0) allowed)
 
 -- the pieces of a text with a style
-pub styled-pieces : (form : Form) (text : List ℕ) (style : DemangleStyle) (suffix : List ℕ) → HasStyle text style suffix → pieces_in form text ≡ Some (style_pieces form style, suffix)
+pub styled-pieces : (form : LimitedForm) (text : List ℕ) (style : DemangleStyle) (suffix : List ℕ) → HasStyle text style suffix → pieces_in form text ≡ Some (style_pieces form style, suffix)
 styled-pieces form text (Legacy symbol) suffix has = pieces-legacy form text (elements_of symbol) suffix has.read has.allowed
 styled-pieces form text (V0 symbol) suffix has = pieces-v0 form text symbol suffix has.read has.allowed
 
@@ -125,7 +127,16 @@ style_looks-most text format (Legacy symbol) suffix has =
 style_looks-most text format (V0 symbol) suffix has =
     let inner : length symbol ≤ length text = has.inner in
     let same = kept_in-some text format (V0 symbol) suffix has in
-    mul-le (100000 * (kept (path_texts symbol (form_of format)) format.limit + 1)) (length symbol + 1) (100000 * (kept_in text format + 1)) (length text + 1) (omega (arith, same)) (omega arith)
+    let marked : kept (texts_within symbol (form_of format)) format.limit ≤ kept (path_texts symbol (form_of format)) format.limit = kept_marked (texts_within symbol (form_of format)) (is_all symbol (form_of format)) format.limit in
+    mul-le (100000 * (kept (texts_within symbol (form_of format)) format.limit + 1)) (length symbol + 1) (100000 * (kept_in text format + 1)) (length text + 1) (omega (arith, same, marked)) (omega arith)
+
+style_looks_again-most : (text : List ℕ) (format : Format) (style : DemangleStyle) (suffix : List ℕ) → HasStyle text style suffix
+    → style_looks_again (form_of format) style ≤ 17 * (length text + 1 + again_in text format)
+style_looks_again-most text format (Legacy symbol) suffix has = let inner : length symbol ≤ length text = has.inner in omega arith
+style_looks_again-most text format (V0 symbol) suffix has =
+    let inner : length symbol ≤ length text = has.inner in
+    let same : again_in text format ≡ path_again symbol (form_of format).plain = ap (λ read. option_map_or (λ (r : List ℕ × List ℕ). path_again r.0 (form_of format).plain) read 0) has.read in
+    omega arith
 
 style_looks-legacy : (text : List ℕ) (format : Format) (style : DemangleStyle) (suffix : List ℕ) → HasStyle text style suffix → IsLegacySymbol text
     → style_looks (form_of format) format.limit style ≤ 16 * (length text + 1)
@@ -144,10 +155,17 @@ no_symbol_unstyled text none symbol = let some = pieces-symbol (form true false)
 
 -- the looks of printing a text with this style, and one without a style
 pub styled_looks : (text : List ℕ) (format : Format) (style : DemangleStyle) (suffix : List ℕ) (old new : ℕ) → HasStyle text style suffix
-    → old ≤ new → new ≤ old + style_looks (form_of format) format.limit style → old + style_least style ≤ new → PrintingLooksIn text format old new
-styled_looks text format style suffix old new has grows most least = record {
+    → old ≤ new → new ≤ old + style_looks (form_of format) format.limit style → new ≤ old + style_looks_again (form_of format) style
+    → IfSome format.references (λ k. new ≤ old + 20 * (style_len style + 1) * (k + 1)) → old + style_least style ≤ new → PrintingLooksIn text format old new
+styled_looks text format style suffix old new has grows most again few least = record {
   grows = grows;
   most = omega (arith, most, style_looks-most text format style suffix has);
+  again = omega (arith, again, style_looks_again-most text format style suffix has);
+  few = λ k e.
+      let w : new ≤ old + 20 * (style_len style + 1) * (k + 1) = few_looks format.references k (style_len style) old new e few in
+      let inner : style_len style ≤ length text = has.inner in
+      let more = mul-le (20 * (style_len style + 1)) (k + 1) (20 * (length text + 1)) (k + 1) (omega (arith, inner)) (omega arith) in
+      omega (arith, w, more);
   legacy = λ legacy. omega (arith, most, style_looks-legacy text format style suffix has legacy);
   v0 = λ v0. omega (arith, least, style_least-v0 text style suffix has v0);
   no_symbol = λ none. absurd (none (symbol_styled text style suffix has));
@@ -157,6 +175,8 @@ pub unstyled_looks : (text : List ℕ) (format : Format) (looks : ℕ) → HasNo
 unstyled_looks text format looks none = record {
   grows = omega arith;
   most = omega arith;
+  again = omega arith;
+  few = λ k e. omega arith;
   legacy = λ legacy. omega arith;
   v0 = λ v0. absurd (no_symbol_unstyled text none (inr v0));
   no_symbol = λ _. refl;

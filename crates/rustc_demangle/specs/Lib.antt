@@ -1,5 +1,6 @@
 -- The definitions that a reader of the public contracts has to believe, in reading order.
 pub mod Stripped
+pub mod Shape
 pub mod Symbols
 pub mod PathEnds
 pub mod Hashes

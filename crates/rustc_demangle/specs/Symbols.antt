@@ -4,10 +4,11 @@ use Rattle.std.specs.List.{concat}
 use Rattle.std.specs.Option.{option_map_or, option_or}
 use Rattle.demangle_sink.specs.Cut.{cut, kept}
 use Rattle.demangle_legacy.specs.Legacy.{IsLegacy, legacy_of}
-use Rattle.demangle_v0_grammar.specs.Reading.{Form, form, path_texts}
+use Rattle.demangle_v0_grammar.specs.Again.{path_again}
+use Rattle.demangle_v0_grammar.specs.Reading as reading
+use Rattle.rustc_demangle.specs.Shape.{LimitedForm, form, path_texts, legacy_pieces}
 use Rattle.rustc_demangle.specs.Stripped.{is_allowed}
 use Rattle.rustc_demangle.specs.declared.format.Format.{Format}
-use Rattle.demangle_legacy.specs.Unescaped.{legacy_pieces}
 use Rattle.demangle_v0_grammar.specs.V0.{IsV0, v0_of}
 
 -- the text is spelled by the grammar of the legacy scheme, up to an allowed suffix
@@ -29,17 +30,17 @@ if_allowed (Some (x, suffix)) = if is_allowed suffix then Some (x, suffix) else 
 
 -- The pieces and the suffix of a text in the scheme that accepts it, in a form. The arguments of a legacy symbol are
 -- parts of names, so only a v0 symbol has arguments to fold. No text has a prefix of both schemes.
-abbrev pub read_in : Form → List ℕ → Option (List (List ℕ) × List ℕ)
+abbrev pub read_in : LimitedForm → List ℕ → Option (List (List ℕ) × List ℕ)
 read_in form text = option_or (option_map (λ read. (legacy_pieces form read.0, read.1)) (legacy_of text))
     (option_map (λ read. (path_texts read.0 form, read.1)) (v0_of text))
 
 -- the pieces and the suffix of a symbol, in a form
-abbrev pub pieces_in : Form → List ℕ → Option (List (List ℕ) × List ℕ)
+abbrev pub pieces_in : LimitedForm → List ℕ → Option (List (List ℕ) × List ℕ)
 pieces_in form text = if_allowed (read_in form text)
 
--- the form of a format, which has a limit too
-abbrev pub form_of : Format → Form
-form_of format = form format.include_hash format.fold_arguments
+-- the form of a format, which has a limit of bytes too
+abbrev pub form_of : Format → LimitedForm
+form_of format = record { plain = format.form; references = format.references }
 
 -- The pieces of a symbol within the limit, then the marker if some are left out, then the suffix. Any other text is
 -- one piece.
@@ -50,12 +51,16 @@ handed_in text format = option_map_or (λ read. cut read.0 format.limit ++ read.
 abbrev pub kept_in : List ℕ → Format → ℕ
 kept_in text format = option_map_or (λ read. kept read.0 format.limit) (pieces_in (form_of format) text) 0
 
+-- how far reading goes back in all, while the path of a v0 symbol prints
+abbrev pub again_in : List ℕ → Format → ℕ
+again_in text format = option_map_or (λ read. path_again read.0 (form_of format).plain) (v0_of text) 0
+
 -- the format with generic arguments, and the one with `_` for them
 abbrev pub unfolded : Bool → ℕ → Format
-unfolded hash limit = record { include_hash = hash; fold_arguments = false; limit = limit }
+unfolded hash limit = record { form = reading.form hash false; limit = limit; references = None }
 
 abbrev pub folded : Bool → ℕ → Format
-folded hash limit = record { include_hash = hash; fold_arguments = true; limit = limit }
+folded hash limit = record { form = reading.form hash true; limit = limit; references = None }
 
 -- The same with or without the hash, and with generic arguments.
 
@@ -70,11 +75,14 @@ kept_of text hash limit = kept_in text (unfolded hash limit)
 
 -- The change of the look counter by printing a text, for Ok and for Err. Let `n` be the length of the text, and `w`
 -- the number of bytes that are kept. The counter never decreases. It increases by at most 100,000 x (w + 1) x
--- (n + 1), and for a legacy symbol by at most 16 x (n + 1). It increases by at least 1 for a v0 symbol, and by
--- nothing for a text that is not a symbol.
+-- (n + 1), and by at most 17 for each of n + 1 bytes and of those over which reading goes back. With a limit of k
+-- references it increases by at most 20 x (n + 1) x (k + 1), and for a legacy symbol by at most 16 x (n + 1). It
+-- increases by at least 1 for a v0 symbol, and by nothing for a text that is not a symbol.
 pub record PrintingLooksIn (text : List ℕ) (format : Format) (old new : ℕ) : Type 0 where
   pub grows : old ≤ new
   pub most : new ≤ old + 100000 * (kept_in text format + 1) * (length text + 1)
+  pub again : new ≤ old + 17 * (length text + 1 + again_in text format)
+  pub few : (k : ℕ) → format.references ≡ Some k → new ≤ old + 20 * (length text + 1) * (k + 1)
   pub legacy : IsLegacySymbol text → new ≤ old + 16 * (length text + 1)
   pub v0 : IsV0Symbol text → old + 1 ≤ new
   pub no_symbol : (IsSymbol text → ⊥) → new ≡ old

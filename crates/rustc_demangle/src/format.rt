@@ -1,7 +1,7 @@
 //! The format in which symbols are printed.
 
 ghost use Rattle.std.specs.Prelude.{◌≡◌};
-ghost use Rattle.rustc_demangle.specs.Symbols.{folded, form_of, unfolded};
+ghost use Rattle.rustc_demangle.specs.Symbols.{folded, unfolded};
 
 use demangle_symbol::form::Form;
 
@@ -10,14 +10,13 @@ use demangle_symbol::form::Form;
 /// The calls without a `Format` print generic arguments.
 #[derive(Clone, Copy, Debug, PartialEq, Eq)]
 pub struct Format {
-    /// Whether the hash of a legacy symbol, and the hashes and the types of numbers of a v0 symbol,
-    /// are printed.
-    pub include_hash: bool,
-    /// Whether `_` is printed for each list of generic arguments of a v0 symbol. The arguments of a
-    /// legacy symbol are parts of names, and are always printed.
-    pub fold_arguments: bool,
+    /// What is printed of a symbol.
+    pub form: Form,
     /// The most bytes before the marker `{size limit reached}` and the suffix.
     pub limit: usize,
+    /// The most references that are followed for a path of a v0 symbol, if their number is limited.
+    /// Where one more would be followed, the path ends with the marker.
+    pub references: Option<usize>,
 }
 
 impl Format {
@@ -27,10 +26,14 @@ impl Format {
     pub const fn unfolded(include_hash: bool, limit: usize) -> Self
         ensures { result ≡ unfolded include_hash limit }
     {
-        Format {
+        let form = Form {
             include_hash,
             fold_arguments: false,
+        };
+        Format {
+            form,
             limit,
+            references: None,
         }
     }
 
@@ -39,21 +42,14 @@ impl Format {
     pub const fn folded(include_hash: bool, limit: usize) -> Self
         ensures { result ≡ folded include_hash limit }
     {
-        Format {
+        let form = Form {
             include_hash,
             fold_arguments: true,
+        };
+        Format {
+            form,
             limit,
-        }
-    }
-
-    /// Returns the format without its limit.
-    #[inline(always)]
-    pub(crate) fn form(self) -> Form
-        ensures { result ≡ form_of self }
-    {
-        Form {
-            include_hash: self.include_hash,
-            fold_arguments: self.fold_arguments,
+            references: None,
         }
     }
 }

@@ -20,6 +20,7 @@ mod value;
 
 pub use byte_before::plain_len;
 pub use demangle_symbol::cursor::Looks;
+pub use demangle_symbol::form::Form;
 pub use format::Format;
 pub use runs::{run_len, run_start};
 pub use slice::{demangle_slice, demangle_slice_formatted};

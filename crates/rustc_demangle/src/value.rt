@@ -2,11 +2,11 @@
 ghost use Rattle.std.specs.Prelude.{◌≡◌, ◌+◌, ◌-◌, ◌*◌, ◌≤◌, length, true, false, IsTrue, IsAscii, IfSome, IfNone, None};
 ghost use Rattle.std.specs.List.{list_all};
 ghost use Rattle.demangle_legacy.specs.Legacy.{legacy_of};
-ghost use Rattle.demangle_sink.specs.Limit.{Prints, Ready};
+ghost use Rattle.demangle_sink.specs.Limit.{PrintsUpTo, Ready};
 ghost use Rattle.rustc_demangle.specs.Filtered.{is_run_byte};
 ghost use Rattle.rustc_demangle.specs.PathEnds.{path_len_of};
 ghost use Rattle.rustc_demangle.specs.Stripped.{is_allowed, is_graphic, stripped};
-ghost use Rattle.rustc_demangle.specs.Style.{style_pieces, style_len, style_looks, style_least, IsReadAs, HasNoStyle, HasStyle};
+ghost use Rattle.rustc_demangle.specs.Style.{style_texts, is_style_all, style_len, style_looks, style_looks_again, style_least, IsReadAs, HasNoStyle, HasStyle};
 ghost use Rattle.rustc_demangle.specs.Symbols.{form_of, IsSymbol};
 ghost use Rattle.demangle_v0_grammar.specs.V0.{v0_of};
 
@@ -37,17 +37,21 @@ impl DemangleStyle<'_> {
         format: Format,
         looks: &mut Looks,
     ) -> Result<(), SinkRefused>
-        requires { Ready S.TextSink out.old }
-        ensures prints { Prints S.TextSink out.old
-            (style_pieces (form_of format) self.now) result out.new }
+        requires ready { Ready S.TextSink out.old }
+        requires same { out.old.references ≡ format.references }
+        ensures prints { PrintsUpTo S.TextSink out.old (style_texts (form_of format) self.now)
+            (is_style_all (form_of format) self.now) result out.new }
         ensures grows { looks.old ≤ looks.new }
         ensures most { looks.new ≤ looks.old
             + style_looks (form_of format) out.old.remaining self.now }
+        ensures again { looks.new ≤ looks.old + style_looks_again (form_of format) self.now }
+        ensures few { IfSome format.references (λ k. looks.new ≤ looks.old
+            + 20 * (style_len self.now + 1) * (k + 1)) }
         ensures least { looks.old + style_least self.now ≤ looks.new }
     {
         match self {
-            DemangleStyle::Legacy(symbol) => symbol.write_to(out, format.form(), looks),
-            DemangleStyle::V0(symbol) => symbol.write_to(out, format.form(), looks),
+            DemangleStyle::Legacy(symbol) => symbol.write_to(out, format.form, looks),
+            DemangleStyle::V0(symbol) => symbol.write_to(out, format.form, looks),
         }
     }
 }

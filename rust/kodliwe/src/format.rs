@@ -55,10 +55,14 @@ impl Format {
     }
 
     pub(crate) fn inner(self) -> rustc_demangle::Format {
-        rustc_demangle::Format {
+        let form = rustc_demangle::Form {
             include_hash: self.has_hash,
             fold_arguments: self.has_folded_arguments,
+        };
+        rustc_demangle::Format {
+            form,
             limit: self.limit,
+            references: None,
         }
     }
 }

@@ -15,7 +15,7 @@ pub mod piece_buffer {
 /// Items of the crate `rustc_demangle` of the source.
 pub mod rustc_demangle {
     pub use crate::rustc_demangle::{
-        Demangle, Format, demangle_slice_formatted, try_demangle, write_with_path_len,
+        Demangle, Form, Format, demangle_slice_formatted, try_demangle, write_with_path_len,
     };
     /// Items of its module `sink`.
     pub mod sink {

@@ -37,13 +37,9 @@ impl Parser<'_, '_> {
         ensures performs { AdvancedUnfolded is_first (arguments_continuation is_first) self.old (Ok result) self.new }
         ensures paced { Paced 20 self.old self.new }
     {
-        let Some(at) = self.state.place else {
+        let Some(at) = self.element_place() else {
             return self.end_with(FixedText::Greater);
         };
-        if self.source.symbol.is_at(b'E', at, &mut self.looks) {
-            self.state.place = Some(at + 1);
-            return self.end_with(FixedText::Greater);
-        }
         self.push(Continuation::NextArgument);
         self.state.pending_text = separator(is_first, FixedText::Comma);
         self.argument(at)

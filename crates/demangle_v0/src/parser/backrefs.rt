@@ -11,7 +11,8 @@ use demangle_v0_tokens::backref::{BackrefOutcome, read_backref};
 use demangle_v0_tokens::output::Output;
 
 impl Parser<'_, '_> {
-    /// Reads a back reference after its `B`, and continues at its target if `output` prints.
+    /// Reads a back reference after its `B`, and continues at its target if `output` prints. Fails
+    /// if `output` allows no more references.
     ///
     /// `unit` is the continuation at which the target begins. The frame on top of the stack then
     /// has the place after the reference.
@@ -19,10 +20,11 @@ impl Parser<'_, '_> {
     pub(super) fn follow_backref<V: Output>(
         &mut self,
         unit: Continuation,
-        output: &V,
+        output: &mut V,
     ) -> Result<Continuation, StepError>
         requires can_step { CanAdvance Continuation.Path self.old }
-        ensures performs { Followed V.Output unit self.old output.now result self.new }
+        requires ready { V.ready output.old }
+        ensures performs { Followed V.Output unit self.old output.old result self.new output.new }
         ensures paced { IsOk result → Paced 20 self.old self.new }
     {
         let backref = read_backref(
@@ -41,6 +43,7 @@ impl Parser<'_, '_> {
                     self.state.place = Some(next);
                     return Ok(Continuation::End);
                 }
+                output.follow()?;
                 let frame = self.state.frame(Continuation::AfterBackref);
                 self.stack.push(Frame {
                     number: next as u128,

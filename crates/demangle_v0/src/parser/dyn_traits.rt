@@ -112,15 +112,10 @@ impl Parser<'_, '_> {
             Continuation.NextTraitArgument) self.old (Ok result) self.new }
         ensures paced { Paced 20 self.old self.new }
     {
-        let Some(at) = self.state.place else {
+        let Some(at) = self.element_place() else {
             self.state.is_bracket_open = true;
             return Continuation::End;
         };
-        if self.source.symbol.is_at(b'E', at, &mut self.looks) {
-            self.state.place = Some(at + 1);
-            self.state.is_bracket_open = true;
-            return Continuation::End;
-        }
         self.push(Continuation::NextTraitArgument);
         self.state.pending_text = separator(is_first, FixedText::Comma);
         self.argument(at)

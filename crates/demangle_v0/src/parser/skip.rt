@@ -1,13 +1,13 @@
 //! Parts that a printing parse reads and does not print: impl paths, and folded arguments.
-ghost use Rattle.std.specs.Prelude.{◌≡◌, ◌≤◌, true, Some, Ok, IfSome, IfNone};
-ghost use Rattle.demangle_v0.specs.Parsers.{FinishesSkip, IsValid, UnfinishedIsValid, Same, SkipsFull, SkipsOver, checked_at};
+ghost use Rattle.std.specs.Prelude.{◌≡◌, ◌+◌, ◌*◌, ◌≤◌, length, true, false, Some, Ok, IfSome, IfNone, IsTrue};
+ghost use Rattle.demangle_v0.specs.Parsers.{FinishesSkip, IsValid, IsWithin, Paced, UnfinishedIsValid, Same, SkipsFull, SkipsOver, checked_at};
 ghost use Rattle.demangle_v0.specs.Loops.{state_at};
 ghost use Rattle.demangle_v0.specs.Skips.{after_skip, is_skipped, skipped_continuation};
 
+use crate::fuel::{Fuel, fuel_after};
 use crate::parser::machine::Parser;
-use crate::parser::steps::{Checkpoint, ReadOutcome};
+use crate::parser::steps::{Checkpoint, ReadOutcome, Unfinished};
 use crate::parser::{Continuation, State};
-use crate::printer::Unfinished;
 use demangle_symbol::form::Form;
 
 /// Returns whether an impl path is next, or generic arguments if they are folded.
@@ -82,13 +82,13 @@ impl Parser<'_, '_> {
     /// Returns what is left to print if the stack is full before the part ends.
     // It is not inlined, so that the loop of printing stays small.
     #[inline(never)]
-    pub(crate) fn finish_impl_path(&mut self, left: Unfinished) -> Option<Unfinished>
+    pub(crate) fn finish_skip(&mut self, left: Unfinished) -> Option<Unfinished>
         requires valid { UnfinishedIsValid 0 (Ok (Some left)) self.old }
         ensures finishes { FinishesSkip self.old left result self.new }
         ensures grows { self.old.looks ≤ self.new.looks }
         ensures same { Same self.old self.new }
     {
-        let Unfinished::ImplPath(base, printing) = left else {
+        let Unfinished::Skipping(base, printing) = left else {
             return None;
         };
         match self.read_steps(base) {
@@ -108,7 +108,7 @@ impl Parser<'_, '_> {
     /// Reads the impl path or the folded arguments at which the parser is, and continues after
     /// them. Returns what is left to print if the stack is full before they end.
     #[inline(always)]
-    pub(crate) fn skip_impl_path(&mut self) -> Option<Unfinished>
+    pub(crate) fn skip_part(&mut self) -> Option<Unfinished>
         requires skipped { is_skipped self.old.source.form self.old.continuation ≡ true }
         requires valid { IsValid self.old }
         ensures following { IfNone result (SkipsOver self.old self.new) }
@@ -123,6 +123,48 @@ impl Parser<'_, '_> {
         };
         self.continuation = skipped_continuation(self.continuation);
         self.state.in_value = false;
-        self.finish_impl_path(Unfinished::ImplPath(base, printing))
+        self.finish_skip(Unfinished::Skipping(base, printing))
+    }
+
+    /// Returns whether a parse may read a part without output. One with a budget may do so only at
+    /// a byte or at the end, where the length of the symbol bounds the looks.
+    #[inline(always)]
+    pub(crate) fn may_skip(&self, has_budget: bool) -> bool
+        ensures within { IsTrue result → has_budget ≡ true → IsWithin self.now }
+        ensures without { result ≡ false → has_budget ≡ true }
+    {
+        if !has_budget {
+            return true;
+        }
+        match self.place() {
+            Some(at) => at <= self.source.symbol.len(),
+            None => false,
+        }
+    }
+
+    /// Reads the impl path or the folded arguments at which the parser is, continues after them,
+    /// and uses up fuel for their bytes. Returns what is left to print if the stack is full before
+    /// they end. Then no fuel is left, and neither is after an error.
+    #[inline(never)]
+    pub(crate) fn skip_for_fuel(&mut self) -> Option<Unfinished>
+        requires skipped { is_skipped self.old.source.form self.old.continuation ≡ true }
+        requires valid { IsValid self.old }
+        ensures over { IfNone result (SkipsOver self.old self.new) }
+        ensures full { IfSome result (λ x. SkipsFull self.old x self.new) }
+        ensures paced { IsWithin self.old → Paced 20 self.old self.new }
+        ensures most { IsWithin self.old → self.new.looks ≤ self.old.looks + 32 * (length
+            self.old.source.symbol.now + 1) + 7 }
+        ensures grows { self.old.looks ≤ self.new.looks }
+        ensures same { Same self.old self.new }
+    {
+        let fuel = self.fuel;
+        let start = self.place();
+        if let Some(left) = self.skip_part() {
+            self.fuel.use_up();
+            return Some(left);
+        }
+        let left = fuel_after(fuel.left, start, self.place());
+        self.fuel = Fuel { left, ..fuel };
+        None
     }
 }

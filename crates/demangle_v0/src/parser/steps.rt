@@ -1,4 +1,4 @@
-//! The loop that parses without output, and the checkpoints of a parse.
+//! The loop that parses without output, and where a parse stops.
 ghost use Rattle.std.specs.Prelude.{◌≡◌, ◌≤◌, length};
 ghost use Rattle.demangle_v0.specs.Parsers.{IsValid, ReadSteps, Same, checked_at};
 ghost use Rattle.demangle_v0.specs.Loops.{first_state};
@@ -13,6 +13,16 @@ use demangle_v0_tokens::output::NoOutput;
 pub struct Checkpoint {
     pub continuation: Continuation,
     pub state: State,
+}
+
+/// The rest that is left to print when the stack is full or the fuel is used up.
+#[derive(Clone, Copy)]
+pub enum Unfinished {
+    /// The rest is that of the parser and its frames.
+    Printing,
+    /// The same, and the parser is in a part that is not printed, which began above that many frames.
+    /// After the part, printing continues at the checkpoint.
+    Skipping(usize, Checkpoint),
 }
 
 impl State {

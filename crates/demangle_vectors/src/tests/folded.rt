@@ -3,7 +3,7 @@ use super::repeats::repeated;
 use super::{assert_rejected, repeat_between};
 use rustc_demangle::sink::ArraySink;
 use rustc_demangle::{
-    Format, Looks, demangle, demangle_bytes_formatted, demangle_slice_formatted,
+    Form, Format, Looks, demangle, demangle_bytes_formatted, demangle_slice_formatted,
     demangle_text_formatted,
 };
 use std::alloc::{AllocError, Global};
@@ -175,10 +175,14 @@ fn filtered(alloc: Global, text: &[u8], format: Format) -> Result<Vec<u8>, Alloc
 fn texts_are_written_in_a_format(rt: HostRuntime) -> Result<(), Fail> {
     let alloc = rt.alloc();
     for (fold_arguments, wanted) in [(true, FOLDED_TEXT), (false, UNFOLDED_TEXT)] {
-        let format = Format {
+        let form = Form {
             include_hash: false,
             fold_arguments,
+        };
+        let format = Format {
+            form,
             limit: 1_000_000,
+            references: None,
         };
         let output = filtered(alloc, TEXT, format)?;
         assert_eq!(rt; output.as_slice(), wanted, "by the filter of bytes");
@@ -326,11 +330,7 @@ fn a_repeated_run_is_folded_alike(rt: HostRuntime) -> Result<(), Fail> {
     let alloc = rt.alloc();
     for (run, limit, plain, alt) in RUNS {
         for (include_hash, text) in [(true, plain), (false, alt)] {
-            let format = Format {
-                include_hash,
-                fold_arguments: true,
-                limit,
-            };
+            let format = Format::folded(include_hash, limit);
             let output = filtered(alloc, repeated(alloc, run)?.as_slice(), format)?;
             let wanted = repeated(alloc, text)?;
             assert_eq!(rt; output.as_slice(), wanted.as_slice(), "of {run:?}");
@@ -342,11 +342,7 @@ fn a_repeated_run_is_folded_alike(rt: HostRuntime) -> Result<(), Fail> {
 #[test]
 fn a_deep_list_is_folded(rt: HostRuntime) -> Result<(), Fail> {
     let alloc = rt.alloc();
-    let format = Format {
-        include_hash: false,
-        fold_arguments: true,
-        limit: 1_000_000,
-    };
+    let format = Format::folded(false, 1_000_000);
     // More tuples than the first stack has frames.
     for depth in [1, 40, 60, 400] {
         let types = repeat_between(alloc, "_RINvC5crate7generic", "T", depth, "h")?;

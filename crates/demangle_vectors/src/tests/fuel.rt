@@ -12,9 +12,14 @@ const PLAIN: Form = Form {
     fold_arguments: false,
 };
 
+const FOLDED: Form = Form {
+    include_hash: true,
+    fold_arguments: true,
+};
+
 /// Returns whether the path of a text is printed before the text is validated. The text ends with an
 /// `x`, which is no suffix. So what is not printed by then is not printed at all.
-fn is_printed_first(text: &str, limit: usize) -> bool {
+fn is_printed_first(text: &str, limit: usize, form: Form) -> bool {
     if !text.is_ascii() {
         return false;
     }
@@ -22,7 +27,7 @@ fn is_printed_first(text: &str, limit: usize) -> bool {
     let mut out = SizeLimitedFmtAdapter::new(&mut sink, limit);
     let looks = &mut Looks::new();
     matches!(
-        demangle_v0::demangle_printed(text, &mut out, PLAIN, looks),
+        demangle_v0::demangle_printed(text, &mut out, form, looks),
         Printed::Symbol(_, "x")
     )
 }
@@ -39,7 +44,7 @@ fn repeated(alloc: Global, begin: &str, part: &str, count: usize) -> Result<Stri
 }
 
 fn assert_is_printed_first(rt: &impl Abort, text: &str, is_wanted: bool) {
-    assert_eq!(rt; is_printed_first(text, 4096), is_wanted, "of {text}");
+    assert_eq!(rt; is_printed_first(text, 4096, PLAIN), is_wanted, "of {text}");
 }
 
 /// Asserts that a valid symbol prints this text.
@@ -65,9 +70,26 @@ fn paths_of_each_kind_are_printed_first(rt: HostRuntime) {
         "_RINvNtCs1234_7mycrate3foo3barDNtB4_5Traitp4ItemhEL_Ex",
         "_RINvNtCs1234_7mycrate3foo3barFG0_RL0_hEuEx",
         "_RNCNvNtCs1234_7mycrate3foo3bars_0x",
+        // With a second path, which is read and not printed.
+        "_RNvNtC5crate4main3fooC5otherx",
+        "_RINvC5crate4mainhENtC5other3barx",
     ] {
         assert_is_printed_first(&rt, text, true);
     }
+}
+
+#[test]
+fn folded_paths_are_printed_first(rt: HostRuntime) {
+    for text in [
+        "_RNvNtCs1234_7mycrate3foo3barx",
+        "_RINvNtCs1234_7mycrate3foo3barNtB2_1aNtB2_1bEx",
+        "_RNvMs_NtCs1234_7mycrate3fooINtB4_3BarhE3bazC5otherx",
+        // What is not printed uses up no fuel for strings and constants.
+        "_RIC1aKRe616263_Kj1_Kj2_Ex",
+    ] {
+        assert!(rt; is_printed_first(text, 4096, FOLDED), "of {text}");
+    }
+    assert!(rt; !is_printed_first("_RNvCu9bcher_kva3foox", 4096, FOLDED));
 }
 
 #[test]
@@ -132,8 +154,8 @@ fn targets_that_enclose_their_references_end_at_once(rt: HostRuntime) {
 #[test]
 fn a_text_ends_at_the_limit(rt: HostRuntime) {
     let text = "_RNvNtCs1234_7mycrate3foo3barx";
-    assert!(rt; is_printed_first(text, 24));
-    assert!(rt; !is_printed_first(text, 23));
+    assert!(rt; is_printed_first(text, 24, PLAIN));
+    assert!(rt; !is_printed_first(text, 23, PLAIN));
 }
 
 #[test]

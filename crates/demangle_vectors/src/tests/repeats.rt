@@ -210,6 +210,26 @@ fn a_long_text_is_written_whole_each_time(rt: HostRuntime) -> Result<(), Fail> {
 }
 
 #[test]
+fn a_long_text_is_noted(rt: HostRuntime) -> Result<(), Fail> {
+    let alloc = rt.alloc();
+    let mut memo = SymbolMemo::new(alloc, true, 1_000_000);
+    let text = repeated(alloc, LONG)?;
+    let mut filter = BytesFilter::new(alloc);
+    let mut input = text.as_slice();
+    let mut output = Vec::new(alloc);
+    for _ in 0..100u32 {
+        match filter.step(&mut input, &mut output, &mut memo) {
+            Ok(true) => {}
+            Ok(false) => break,
+            Err(fault) => return Err(fault.into_io().into()),
+        }
+    }
+    // The table of the symbols that came, and that of the ones whose texts are too long.
+    assert_eq!(rt; memo.allocated(), 65_536);
+    Ok(())
+}
+
+#[test]
 fn alternating_runs_keep_their_texts(rt: HostRuntime) -> Result<(), Fail> {
     let alloc = rt.alloc();
     for include_hash in [true, false] {

@@ -3,12 +3,11 @@ ghost use Rattle.std.specs.Prelude.{◌≡◌, ◌⊎◌, ℕ, ◌+◌, ◌≤�
 ghost use Rattle.std.specs.List.{concat, list_all};
 ghost use Rattle.demangle_sink.specs.Array.{text_of};
 ghost use Rattle.demangle_sink.specs.Cut.{size};
-ghost use Rattle.demangle_v0_grammar.specs.Reading.{form};
+ghost use Rattle.rustc_demangle.specs.Shape.{form, legacy_pieces};
 ghost use Rattle.rustc_demangle.specs.Hashes.{OmitsHash};
 ghost use Rattle.demangle_legacy.specs.Legacy.{IsLegacy};
 ghost use Rattle.rustc_demangle.specs.Stripped.{stripped, is_thin_lto, is_allowed, IsCut};
 ghost use Rattle.rustc_demangle.specs.Symbols.{IsSymbol, handed, kept_of, most_bytes, pieces_of, printed};
-ghost use Rattle.demangle_legacy.specs.Unescaped.{legacy_pieces};
 
 use crate::value::Demangle;
 use demangle_sink::{ArraySink, SinkRefused, TextSink};

@@ -1,6 +1,7 @@
 //! Laws about the number of looks of parsing a v0 symbol.
 ghost use Rattle.std.specs.Prelude.{◌≡◌, ℕ, ◌+◌, ◌-◌, ◌*◌, ◌≤◌, Bool, true, List, length, take, None};
-ghost use Rattle.demangle_v0_grammar.specs.ValidationLooks.{accepting_looks};
+ghost use Rattle.demangle_v0_grammar.specs.Again.{OnlyBack, again, led_back, reach, read_again};
+ghost use Rattle.demangle_v0_grammar.specs.ValidationLooks.{accepting_looks, looks_in};
 ghost use Rattle.demangle_v0_grammar.specs.LookBudget.{bytes_of, looks_of, IsWithinBudget};
 ghost use Rattle.demangle_sink.specs.Cut.{size};
 ghost use Rattle.demangle_v0_grammar.specs.Items.{Items, Kind, a_path};
@@ -28,6 +29,23 @@ pub fn printing_looks_stay_linear()
         bytes_of (costs_of form.include_hash
         (read_at symbol form.fold_arguments true a_path 0 0 0 true).tree)
         ≡ size (path_texts symbol form) }
+{}
+
+/// The looks of a production, printed or not, are at most 17 for each byte that it reads. A byte
+/// counts again each time that reading goes back over it: to the target of a reference, and from
+/// the end of a target that is read beyond its reference. If no target is, the distances back to
+/// the targets are enough.
+pub fn looks_grow_with_what_is_read()
+    ensures read { (symbol : List ℕ) (folds printed : Bool) (kind : Kind)
+        (i depth lifetimes : ℕ) (value : Bool) → i ≤ length symbol →
+        let read = read_at symbol folds printed kind i depth lifetimes value in
+        looks_in read + 6
+        ≤ 17 * (reach (length symbol) i read.place + again (read_again (length symbol)) read.tree) }
+    ensures only_back { (symbol : List ℕ) (folds printed : Bool) (kind : Kind)
+        (i depth lifetimes : ℕ) (value : Bool) → i ≤ length symbol →
+        let read = read_at symbol folds printed kind i depth lifetimes value in
+        OnlyBack read.tree →
+        looks_in read + 6 ≤ 17 * (reach (length symbol) i read.place + again led_back read.tree) }
 {}
 
 /// Accepting a symbol makes at most 32 looks for each of its bytes, and 32 more.

@@ -121,9 +121,9 @@ fn run_to_end<R: BufRead, W: Write, A: Allocator>(
 ///
 /// The input is read in the reader's chunks and not by lines. The bytes of a chunk between two runs
 /// are one write. Memory holds the unfinished run at the end of the bytes so far, and a
-/// `SymbolMemo`. So a repeated symbol is one write. So is a v0 symbol or a legacy symbol with a
-/// hash, if it has 20 to 2,048 bytes and prints up to 2,048. If it prints more, it is written in
-/// parts. Each piece of another symbol is one write.
+/// `SymbolMemo`. So a repeated symbol of 20 to 2,048 bytes is one write. So is a v0 symbol or a
+/// legacy symbol with a hash, if it has as many bytes and prints up to 2,048. If it prints more, it
+/// is written in parts. Each piece of another symbol is one write.
 ///
 /// # Errors
 ///

@@ -13,6 +13,7 @@ use crate::stream::fault::StreamFault;
 use crate::stream::memo::SymbolMemo;
 use std::alloc::Allocator;
 use std::io::Write;
+use text_memo::Comparisons;
 
 /// The bytes that a filter read and has not written.
 #[derive(Drop)]
@@ -55,7 +56,7 @@ fn write_candidate<W: Write>(
     if before.is_alphanumeric() {
         return write_unchanged(candidate, output);
     }
-    match memo.write_run(run_text(candidate), output) {
+    match memo.write_run(run_text(candidate), output, &mut Comparisons::new()) {
         Ok(()) => Ok(()),
         Err(error) => Err(StreamFault::Write(error)),
     }

@@ -1,12 +1,12 @@
 //! Prints symbols into sinks, cut at a limit.
-ghost use Rattle.std.specs.Prelude.{◌≡◌, ◌+◌, ◌*◌, ◌≤◌, length, true, false, IsTrue};
+ghost use Rattle.std.specs.Prelude.{◌≡◌, ◌+◌, ◌*◌, ◌≤◌, length, true, false, IfSome, IsTrue};
 ghost use Rattle.std.specs.List.{list_all};
 ghost use Rattle.demangle_sink.specs.Cut.{cut};
 ghost use Rattle.demangle_sink.specs.PutsPieces.{PutsPieces};
 ghost use Rattle.rustc_demangle.specs.Filtered.{is_run_byte, replacement_in};
 ghost use Rattle.rustc_demangle.specs.PathEnds.{handed_with_path_len};
 ghost use Rattle.rustc_demangle.specs.Stripped.{stripped};
-ghost use Rattle.rustc_demangle.specs.Style.{style_pieces, style_looks, style_least};
+ghost use Rattle.rustc_demangle.specs.Style.{style_pieces, style_len, style_looks, style_looks_again, style_least};
 ghost use Rattle.rustc_demangle.specs.Tried.{IsRunRead};
 ghost use Rattle.rustc_demangle.specs.Symbols.{folded, form_of, handed, handed_in, most_bytes, PrintingLooks, PrintingLooksIn};
 ghost use Rattle.demangle_sink.specs.Writes.{Writes};
@@ -31,9 +31,12 @@ fn write_cut<S: TextSink>(
     ensures grows { looks.old ≤ looks.new }
     ensures most { looks.new ≤ looks.old
         + style_looks (form_of format) format.limit style.now }
+    ensures again { looks.new ≤ looks.old + style_looks_again (form_of format) style.now }
+    ensures few { IfSome format.references (λ k. looks.new ≤ looks.old
+        + 20 * (style_len style.now + 1) * (k + 1)) }
     ensures least { looks.old + style_least style.now ≤ looks.new }
 {
-    let mut limited = SizeLimitedFmtAdapter::new(out, format.limit);
+    let mut limited = SizeLimitedFmtAdapter::with_references(out, format.limit, format.references);
     let result = style.write_to(&mut limited, format, looks);
     // Printing stops in the same way at the limit and if the sink fails. Only a sink that has not
     // failed gets the marker.
@@ -93,8 +96,8 @@ impl Demangle<'_> {
     /// Prints into a sink, cut at `limit` bytes before the suffix, and counts its looks.
     ///
     /// The path ends before a piece that would exceed the limit. Then `{size limit reached}` and
-    /// the suffix follow. A text that is not a symbol has no limit. If all pieces fit into the
-    /// sink's room, the call succeeds, and the room decreases by their bytes.
+    /// the suffix follow. A text that is not a symbol has no limit. If the sink has room for all
+    /// pieces, the call succeeds.
     ///
     /// # Errors
     ///
@@ -257,13 +260,13 @@ pub(crate) fn print_v0_run<'a, S: TextSink>(
         S.took out.old (replacement_in format run.now) out.new }
     ensures read { IsRunRead run.now result }
     ensures grows { looks.old ≤ looks.new }
-    ensures most { looks.new ≤ looks.old + 195 * (length run.now + 1) }
-    ensures early { result ≡ Tried.Unknown → looks.new ≤ looks.old + 133 * (length run.now + 1) + 8 }
+    ensures most { looks.new ≤ looks.old + 143 * (length run.now + 1) }
+    ensures early { result ≡ Tried.Unknown → looks.new ≤ looks.old + 85 * (length run.now + 1) + 8 }
 {
     let text = without_thin_lto(run);
     let limit = text_limit(run, format);
-    let mut limited = SizeLimitedFmtAdapter::new(out, limit);
-    match demangle_v0::demangle_printed(text, &mut limited, format.form(), looks) {
+    let mut limited = SizeLimitedFmtAdapter::with_references(out, limit, format.references);
+    match demangle_v0::demangle_printed(text, &mut limited, format.form, looks) {
         Printed::Symbol(symbol, suffix) => {
             let allowed = is_allowed(suffix, looks);
             if allowed && put_piece(suffix, out).is_ok() {
@@ -311,7 +314,7 @@ pub(crate) fn print_legacy_run<S: TextSink>(
 {
     let text = without_thin_lto(run);
     let mut limited = SizeLimitedFmtAdapter::new(out, format.limit);
-    let read = demangle_legacy::demangle_printed(text, &mut limited, format.form(), looks);
+    let read = demangle_legacy::demangle_printed(text, &mut limited, format.form, looks);
     let Some((_, suffix)) = read else {
         return false;
     };

@@ -22,7 +22,7 @@ use crate::support::alloc::{AllocError, Global};
 use crate::support::fs::Files;
 use crate::support::io::{IsTerminal, Stdin};
 use crate::support::os::fd::AsFd;
-use kodliwe::internal::rustc_demangle::Format;
+use kodliwe::internal::rustc_demangle::{Form, Format};
 use std::io;
 use std::io::{ErrorKind, Write};
 
@@ -143,12 +143,16 @@ fn add_default(sources: &mut Vec<InputSource<'_>>) -> Result<(), AllocError> {
 
 /// Returns the settings that the arguments request.
 fn settings_of(alloc: Global, request: &Request<'_>) -> Settings {
+    let form = Form {
+        include_hash: request.include_hash,
+        fold_arguments: request.fold_arguments,
+    };
     Settings {
         alloc,
         format: Format {
-            include_hash: request.include_hash,
-            fold_arguments: request.fold_arguments,
+            form,
             limit: request.limit,
+            references: None,
         },
     }
 }

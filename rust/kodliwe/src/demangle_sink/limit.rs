@@ -1,5 +1,5 @@
 // Made from crates/demangle_sink/src/limit.rt by packaging/crate/erase.py: edit that file instead.
-//! Limits the size of the printed text.
+//! Limits the size of the printed text, and the references that are followed for it.
 
 use crate::demangle_sink::{SinkRefused, TextSink};
 
@@ -8,21 +8,48 @@ pub struct SizeLimitedFmtAdapter<'s, S: TextSink> {
     out: &'s mut S,
     /// How many more bytes may be passed to the sink.
     remaining: usize,
-    /// Whether a piece exceeded the limit.
+    /// How many more references may be followed, if their number is limited.
+    references: Option<usize>,
+    /// Whether a piece or a reference exceeded its limit.
     is_limit_reached: bool,
 }
 
 impl<'s, S: TextSink> SizeLimitedFmtAdapter<'s, S> {
     /// Returns an adapter that passes at most `limit` bytes to `out`.
     pub fn new(out: &'s mut S, limit: usize) -> Self {
+        SizeLimitedFmtAdapter::with_references(out, limit, None)
+    }
+
+    /// Returns an adapter that passes at most `limit` bytes to `out`, for which at most `references`
+    /// references are followed, if that is a number.
+    pub fn with_references(out: &'s mut S, limit: usize, references: Option<usize>) -> Self {
         SizeLimitedFmtAdapter {
             out,
             remaining: limit,
+            references,
             is_limit_reached: false,
         }
     }
 
-    /// Returns `true` if a piece exceeded the limit.
+    /// Counts a reference that is followed.
+    ///
+    /// # Errors
+    ///
+    /// Returns `SinkRefused` if as many were followed as are allowed.
+    #[cfg_attr(not(debug_assertions), inline(always))]
+    pub fn follow(&mut self) -> Result<(), SinkRefused> {
+        let Some(left) = self.references else {
+            return Ok(());
+        };
+        if left == 0 {
+            self.is_limit_reached = true;
+            return Err(SinkRefused);
+        }
+        self.references = Some(left - 1);
+        Ok(())
+    }
+
+    /// Returns `true` if a piece or a reference exceeded its limit.
     pub fn is_limit_reached(&self) -> bool {
         self.is_limit_reached
     }

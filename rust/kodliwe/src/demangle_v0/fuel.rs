@@ -10,13 +10,11 @@
 //! Outside of references a parse reads each byte once, as validation does. Within them it has only
 //! a little fuel: some from its start, and some for each byte that it read outside.
 
-use crate::demangle_v0::parser::machine::Parser;
-use crate::demangle_v0::printer::Unfinished;
 use core::mem;
 
 /// The fuel for each byte of a run and for its end.
 #[cfg(feature = "stream")]
-const FUEL_PER_BYTE: usize = 24;
+const FUEL_PER_BYTE: usize = 12;
 
 /// The part of it that a parse has at its start for the steps within references.
 #[cfg(feature = "stream")]
@@ -222,7 +220,7 @@ impl Fuel {
 
 /// Returns what is left of the fuel after the bytes from one place up to another were read without
 /// output. An error leaves none.
-fn fuel_after(fuel: usize, from: Option<usize>, to: Option<usize>) -> usize {
+pub(crate) fn fuel_after(fuel: usize, from: Option<usize>, to: Option<usize>) -> usize {
     let Some(from) = from else {
         return 0;
     };
@@ -231,34 +229,4 @@ fn fuel_after(fuel: usize, from: Option<usize>, to: Option<usize>) -> usize {
     };
     let used = to.saturating_sub(from).saturating_mul(SKIPPED_BYTE_FUEL);
     fuel.saturating_sub(used)
-}
-
-impl Parser<'_, '_> {
-    /// Returns whether a parse may read a part without output.
-    #[cfg_attr(not(debug_assertions), inline(always))]
-    pub(crate) fn may_skip(&self, has_budget: bool) -> bool {
-        if !has_budget {
-            return true;
-        }
-        match self.place() {
-            Some(at) => at <= self.source.symbol.len(),
-            None => false,
-        }
-    }
-
-    /// Reads the impl path or the folded arguments at which the parser is, continues after them,
-    /// and uses up fuel for their bytes. Returns what is left to print if the stack is full before
-    /// they end. Then no fuel is left, and neither is after an error.
-    #[inline(never)]
-    pub(crate) fn skip_for_fuel(&mut self) -> Option<Unfinished> {
-        let fuel = self.fuel;
-        let start = self.place();
-        if let Some(left) = self.skip_impl_path() {
-            self.fuel.use_up();
-            return Some(left);
-        }
-        let left = fuel_after(fuel.left, start, self.place());
-        self.fuel = Fuel { left, ..fuel };
-        None
-    }
 }

@@ -84,7 +84,8 @@ pub enum Printed<'s> {
     Part(Demangle<'s>, &'s str),
     /// The text is not a symbol. A part of a path may be printed.
     NoSymbol,
-    /// The limit or the sink rejected a piece before it was known whether the text is a symbol.
+    /// The limit or the sink rejected a piece, or the limit a reference, before it was known whether
+    /// the text is a symbol.
     Unknown,
 }
 

@@ -8,17 +8,7 @@ use crate::demangle_v0::parser::Continuation;
 use crate::demangle_v0::parser::frames::{FULL_STACK, MIDDLE_STACK, UNUSED_FRAME};
 use crate::demangle_v0::parser::machine::Parser;
 use crate::demangle_v0::parser::skip::is_skipped;
-use crate::demangle_v0::parser::steps::Checkpoint;
-
-/// The rest that is left to print when the stack is full.
-#[derive(Clone, Copy)]
-pub enum Unfinished {
-    /// The rest is that of the parser and its frames.
-    Printing,
-    /// The same, and the parser is in an impl path or folded arguments, which began above that many
-    /// frames. After them, printing continues at the checkpoint.
-    ImplPath(usize, Checkpoint),
-}
+use crate::demangle_v0::parser::steps::Unfinished;
 
 impl Parser<'_, '_> {
     /// Prints until nothing is left or the stack is full. A parse with a budget also stops when its
@@ -70,7 +60,7 @@ impl Parser<'_, '_> {
         left: Unfinished,
         out: &mut SizeLimitedFmtAdapter<'_, S>,
     ) -> Result<Option<Unfinished>, SinkRefused> {
-        if let Some(more) = self.finish_impl_path(left) {
+        if let Some(more) = self.finish_skip(left) {
             return Ok(Some(more));
         }
         self.print_steps(out, false)

@@ -12,7 +12,7 @@ use crate::demangle_v0::parser::frames::{FULL_STACK, MIDDLE_STACK, SHORT_STACK, 
 use crate::demangle_v0::parser::machine::Parser;
 use crate::demangle_v0::parser::steps::ReadOutcome;
 #[cfg(feature = "stream")]
-use crate::demangle_v0::printer::Unfinished;
+use crate::demangle_v0::parser::steps::Unfinished;
 use crate::demangle_v0_tokens::source::Source;
 
 impl Parser<'_, '_> {
@@ -110,7 +110,7 @@ pub enum Attempt {
     Read(usize),
     /// A path has an error. A part of the first path may be printed.
     NoPath,
-    /// The limit or the sink rejected a piece.
+    /// The limit or the sink rejected a piece, or the limit a reference.
     Unknown,
 }
 
@@ -158,7 +158,7 @@ fn printed_first<S: TextSink>(
     let is_printed = match left {
         None => true,
         Some(Unfinished::Printing) => parser.print_validated(out).is_ok(),
-        Some(Unfinished::ImplPath(_, _)) => false,
+        Some(Unfinished::Skipping(_, _)) => false,
     };
     if is_printed {
         Attempt::Printed(end)

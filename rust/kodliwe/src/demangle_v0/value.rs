@@ -23,7 +23,8 @@ impl<'s> Demangle<'s> {
     /// Prints the first path, with hashes or without them, and with its generic arguments or with
     /// `_` for them.
     ///
-    /// Fails at the first piece that the limit or the sink rejects.
+    /// Fails at the first piece that the limit or the sink rejects, and if more references would be
+    /// followed than the adapter allows.
     pub fn write_to<S: TextSink>(
         &self,
         out: &mut SizeLimitedFmtAdapter<'_, S>,

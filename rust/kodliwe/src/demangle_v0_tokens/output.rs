@@ -20,6 +20,13 @@ pub trait Output {
     /// Returns `SinkRefused` if the sink or the size limit rejects a piece. No later piece is sent.
     fn emit(&mut self, source: &Source<'_>, token: &Token) -> Result<(), SinkRefused>;
 
+    /// Counts a reference that is followed.
+    ///
+    /// # Errors
+    ///
+    /// Returns `SinkRefused` if as many were followed as the output allows.
+    fn follow(&mut self) -> Result<(), SinkRefused>;
+
     /// Prints the token of a syntax error.
     ///
     /// # Errors
@@ -44,6 +51,11 @@ impl Output for NoOutput {
     }
 
     #[cfg_attr(not(debug_assertions), inline(always))]
+    fn follow(&mut self) -> Result<(), SinkRefused> {
+        Ok(())
+    }
+
+    #[cfg_attr(not(debug_assertions), inline(always))]
     fn emit_error(&mut self, _source: &Source<'_>, _token: &Token) -> Result<(), SinkRefused> {
         Err(SinkRefused)
     }
@@ -58,6 +70,11 @@ impl<'s, S: TextSink> Output for SizeLimitedFmtAdapter<'s, S> {
     #[cfg_attr(not(debug_assertions), inline(always))]
     fn emit(&mut self, source: &Source<'_>, token: &Token) -> Result<(), SinkRefused> {
         source.render(token, self)
+    }
+
+    #[cfg_attr(not(debug_assertions), inline(always))]
+    fn follow(&mut self) -> Result<(), SinkRefused> {
+        SizeLimitedFmtAdapter::follow(self)
     }
 
     #[cfg_attr(not(debug_assertions), inline(always))]

@@ -25,6 +25,7 @@ mod literals;
 mod names;
 mod pieces;
 mod primitives;
+mod reference_limits;
 mod refused;
 mod repeats;
 mod sinks;

@@ -8,14 +8,13 @@ use crate::demangle_symbol::form::Form;
 /// The calls without a `Format` print generic arguments.
 #[derive(Clone, Copy, Debug, PartialEq, Eq)]
 pub struct Format {
-    /// Whether the hash of a legacy symbol, and the hashes and the types of numbers of a v0 symbol,
-    /// are printed.
-    pub include_hash: bool,
-    /// Whether `_` is printed for each list of generic arguments of a v0 symbol. The arguments of a
-    /// legacy symbol are parts of names, and are always printed.
-    pub fold_arguments: bool,
+    /// What is printed of a symbol.
+    pub form: Form,
     /// The most bytes before the marker `{size limit reached}` and the suffix.
     pub limit: usize,
+    /// The most references that are followed for a path of a v0 symbol, if their number is limited.
+    /// Where one more would be followed, the path ends with the marker.
+    pub references: Option<usize>,
 }
 
 impl Format {
@@ -23,29 +22,28 @@ impl Format {
     /// symbol at `limit` bytes.
     #[inline]
     pub const fn unfolded(include_hash: bool, limit: usize) -> Self {
-        Format {
+        let form = Form {
             include_hash,
             fold_arguments: false,
+        };
+        Format {
+            form,
             limit,
+            references: None,
         }
     }
 
     /// Returns the same format, but with `_` for each list of generic arguments.
     #[inline]
     pub const fn folded(include_hash: bool, limit: usize) -> Self {
-        Format {
+        let form = Form {
             include_hash,
             fold_arguments: true,
+        };
+        Format {
+            form,
             limit,
-        }
-    }
-
-    /// Returns the format without its limit.
-    #[cfg_attr(not(debug_assertions), inline(always))]
-    pub(crate) fn form(self) -> Form {
-        Form {
-            include_hash: self.include_hash,
-            fold_arguments: self.fold_arguments,
+            references: None,
         }
     }
 }

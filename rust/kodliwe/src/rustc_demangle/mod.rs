@@ -14,6 +14,7 @@ mod strip;
 mod text;
 mod value;
 
+pub use crate::demangle_symbol::form::Form;
 pub use format::Format;
 #[cfg(all(test, feature = "stream"))]
 pub use runs::run_len;

@@ -39,9 +39,8 @@ fn put_text<S: TextSink>(text: &str, out: &mut S, format: Format) -> Result<(), 
 ///
 /// A candidate symbol, or run, starts with `_ZN` or `_R`. It continues up to the next character
 /// that is not an ASCII letter, a digit, `$`, `.` or `_`. The text between two runs is one piece,
-/// and a run that is not a symbol is another. Each piece is passed to the sink by one `put`. If all
-/// pieces fit into the sink's room, the call succeeds, and the room decreases by their bytes. It
-/// does not allocate.
+/// and a run that is not a symbol is another. Each piece is passed to the sink by one `put`. If the
+/// sink has room for all pieces, the call succeeds. It does not allocate.
 ///
 /// # Errors
 ///

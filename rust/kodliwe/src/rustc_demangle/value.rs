@@ -27,8 +27,8 @@ impl DemangleStyle<'_> {
         format: Format,
     ) -> Result<(), SinkRefused> {
         match self {
-            DemangleStyle::Legacy(symbol) => symbol.write_to(out, format.form()),
-            DemangleStyle::V0(symbol) => symbol.write_to(out, format.form()),
+            DemangleStyle::Legacy(symbol) => symbol.write_to(out, format.form),
+            DemangleStyle::V0(symbol) => symbol.write_to(out, format.form),
         }
     }
 }

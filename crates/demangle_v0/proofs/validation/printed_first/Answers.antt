@@ -1,13 +1,12 @@
 use Rattle.std.specs.Prelude.{◌*◌}
 use Rattle.std.proofs.Common.{◌≡◌, ◌≤◌, ◌+◌, ℕ, List, Result, Ok, Err, Some, is_ok, true, length, ap, sym, arith, ◌∙◌}
 use Rattle.std.proofs.lemmas.Bool.{false≢true}
-use Rattle.demangle_v0_grammar.specs.Items.{Text}
+use Rattle.demangle_v0_grammar.specs.Reading.{Form}
 use Rattle.demangle_v0_grammar.proofs.LooksLaw.{accepting_costs}
-use Rattle.demangle_sink.specs.Limit.{Prints}
 use Rattle.demangle_sink.specs.declared.TextSink.{Ghosts as Sinks}
 use Rattle.demangle_sink.specs.declared.limit.SizeLimitedFmtAdapter.{SizeLimitedFmtAdapter}
 use Rattle.demangle_sink.specs.declared.SinkRefused.{SinkRefused}
-use Rattle.demangle_v0.specs.Attempts.{PrintsIfPrinted}
+use Rattle.demangle_v0.specs.Attempts.{PrintsPath, PrintsIfPrinted}
 use Rattle.demangle_v0.specs.Loops.{Ended}
 use Rattle.demangle_v0.specs.Parsers.{all_of}
 use Rattle.demangle_v0.specs.Steps.{Env, Machine}
@@ -17,13 +16,13 @@ use Rattle.demangle_v0.specs.declared.validation.Attempt.TheVariants as attempt
 use Rattle.demangle_v0.proofs.WholePaths.{valid_first, printed_end}
 use Rattle.demangle_v0.proofs.PrintLoop.{ended_all, ended_apart, ended_at, prints_so, prints_to}
 use Rattle.demangle_v0.proofs.validation.printed_first.Goals as goal
-use Rattle.demangle_v0.proofs.validation.printed_first.Goals.{in-None, in-Some-Printing, in-Some-ImplPath}
+use Rattle.demangle_v0.proofs.validation.printed_first.Goals.{in-None, in-Some-Printing, in-Some-Skipping}
 
-if_printed : {S : Type 0} (sink : Sinks S) (v w : SizeLimitedFmtAdapter S) (texts : List Text) (result : Attempt) → Prints sink v texts (Ok tt) w → PrintsIfPrinted sink v texts result w
-if_printed sink v w texts (attempt.Printed place) p = p
-if_printed sink v w texts (attempt.Read place) p = tt
-if_printed sink v w texts attempt.NoPath p = tt
-if_printed sink v w texts attempt.Unknown p = tt
+if_printed : {S : Type 0} (sink : Sinks S) (v w : SizeLimitedFmtAdapter S) (symbol : List ℕ) (form : Form) (result : Attempt) → PrintsPath sink v symbol form (Ok tt) w → PrintsIfPrinted sink v symbol form result w
+if_printed sink v w symbol form (attempt.Printed place) p = p
+if_printed sink v w symbol form (attempt.Read place) p = tt
+if_printed sink v w symbol form attempt.NoPath p = tt
+if_printed sink v w symbol form attempt.Unknown p = tt
 
 pub print_within-requires-clause-valid : goal.print_within-requires-clause-valid
 print_within-requires-clause-valid g c = rw (c.requires.path, c.requires.state, c.requires.empty) (valid_first 0)
@@ -38,7 +37,7 @@ after_first_path-requires-clause-first g c =
 pub returns-in-Some-clause-prints : goal.returns-in-Some-clause-prints
 returns-in-Some-clause-prints g c =
     let some = c.in-Some.ensures.some in
-    if_printed g.S.TextSink _ _ _ c.after_first_path.result
+    if_printed g.S.TextSink _ _ _ _ c.after_first_path.result
     (prints_to g.S.TextSink c.args.parser.now.source.symbol.now c.args.parser.now.source.form c.requires.ready
     (rw (c.requires.path, c.requires.state, c.requires.empty) at (ended_at some.0 some.1 c.in-Ok.ensures.ran)))
 
@@ -70,7 +69,7 @@ returns-then-is_printed-clause-prints g c =
           let is = sym w.is_ok-is_printed.ensures.value ∙ (sym w.is_printed-is ∙ c.if-is_printed.true) in
           let rest = rw (same.0, same.1) at w.print_validated.ensures.ended.1 in
           rw w.out-is (prints_so sink symbol form (Ok tt) c.requires.ready (ended_apart left begun (ok_ended w.print_validated.result is rest)))
-      | in-Some-ImplPath w ↦ absurd (false≢true (sym w.is_printed-is ∙ c.if-is_printed.true))
+      | in-Some-Skipping w ↦ absurd (false≢true (sym w.is_printed-is ∙ c.if-is_printed.true))
     ]
 
 pub returns-then-is_printed-clause-most : goal.returns-then-is_printed-clause-most
@@ -81,7 +80,7 @@ returns-then-is_printed-clause-most g c =
     elim c.match-left.branch [
       | in-None w ↦ rw w.parser-is most
       | in-Some-Printing w ↦ rw (w.parser-is, w.print_validated.ensures.looks) most
-      | in-Some-ImplPath w ↦ rw w.parser-is most
+      | in-Some-Skipping w ↦ rw w.parser-is most
     ]
 
 pub returns-else-is_printed-clause-most : goal.returns-else-is_printed-clause-most
@@ -92,5 +91,5 @@ returns-else-is_printed-clause-most g c =
     elim c.match-left.branch [
       | in-None w ↦ rw w.parser-is most
       | in-Some-Printing w ↦ rw (w.parser-is, w.print_validated.ensures.looks) most
-      | in-Some-ImplPath w ↦ rw w.parser-is most
+      | in-Some-Skipping w ↦ rw w.parser-is most
     ]

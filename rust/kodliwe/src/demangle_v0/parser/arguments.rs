@@ -23,13 +23,9 @@ impl Parser<'_, '_> {
     /// A parse that prints folded arguments does not read them here, but as it reads an impl path.
     #[cfg_attr(not(debug_assertions), inline(always))]
     pub(super) fn arguments(&mut self, is_first: bool) -> Continuation {
-        let Some(at) = self.state.place else {
+        let Some(at) = self.element_place() else {
             return self.end_with(FixedText::Greater);
         };
-        if self.source.symbol.is_at(b'E', at) {
-            self.state.place = Some(at + 1);
-            return self.end_with(FixedText::Greater);
-        }
         self.push(Continuation::NextArgument);
         self.state.pending_text = separator(is_first, FixedText::Comma);
         self.argument(at)

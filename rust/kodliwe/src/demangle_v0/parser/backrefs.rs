@@ -8,7 +8,8 @@ use crate::demangle_v0_tokens::backref::{BackrefOutcome, read_backref};
 use crate::demangle_v0_tokens::output::Output;
 
 impl Parser<'_, '_> {
-    /// Reads a back reference after its `B`, and continues at its target if `output` prints.
+    /// Reads a back reference after its `B`, and continues at its target if `output` prints. Fails
+    /// if `output` allows no more references.
     ///
     /// `unit` is the continuation at which the target begins. The frame on top of the stack then
     /// has the place after the reference.
@@ -16,7 +17,7 @@ impl Parser<'_, '_> {
     pub(super) fn follow_backref<V: Output>(
         &mut self,
         unit: Continuation,
-        output: &V,
+        output: &mut V,
     ) -> Result<Continuation, StepError> {
         let backref = read_backref(self.source.symbol, self.state.depth_left, self.state.place);
         match backref {
@@ -29,6 +30,7 @@ impl Parser<'_, '_> {
                     self.state.place = Some(next);
                     return Ok(Continuation::End);
                 }
+                output.follow()?;
                 let frame = self.state.frame(Continuation::AfterBackref);
                 self.stack.push(Frame {
                     number: next as u128,

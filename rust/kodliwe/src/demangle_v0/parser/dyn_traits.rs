@@ -79,15 +79,10 @@ impl Parser<'_, '_> {
     /// still open.
     #[cfg_attr(not(debug_assertions), inline(always))]
     pub(super) fn trait_argument(&mut self, is_first: bool) -> Continuation {
-        let Some(at) = self.state.place else {
+        let Some(at) = self.element_place() else {
             self.state.is_bracket_open = true;
             return Continuation::End;
         };
-        if self.source.symbol.is_at(b'E', at) {
-            self.state.place = Some(at + 1);
-            self.state.is_bracket_open = true;
-            return Continuation::End;
-        }
         self.push(Continuation::NextTraitArgument);
         self.state.pending_text = separator(is_first, FixedText::Comma);
         self.argument(at)

@@ -11,18 +11,23 @@ pub(super) fn separator(is_first: bool, pending_text: FixedText) -> Option<Fixed
 }
 
 impl Parser<'_, '_> {
-    /// Reads the `E` after a list, and returns whether the list ends.
+    /// Returns the place of the next element of a list. Returns `None` if the list ends, and reads
+    /// the `E` after it.
     ///
     /// A list also ends if parsing has failed, so that what follows the list is printed.
     #[cfg_attr(not(debug_assertions), inline(always))]
-    pub(super) fn ends_list(&mut self) -> bool {
-        let Some(at) = self.state.place else {
-            return true;
-        };
+    pub(super) fn element_place(&mut self) -> Option<usize> {
+        let at = self.state.place?;
         if !self.source.symbol.is_at(b'E', at) {
-            return false;
+            return Some(at);
         }
         self.state.place = Some(at + 1);
-        true
+        None
+    }
+
+    /// Returns whether a list ends, and reads the `E` after it, as `element_place` does.
+    #[cfg_attr(not(debug_assertions), inline(always))]
+    pub(super) fn ends_list(&mut self) -> bool {
+        self.element_place().is_none()
     }
 }

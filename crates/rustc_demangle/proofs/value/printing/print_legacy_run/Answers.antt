@@ -3,7 +3,7 @@ use Rattle.std.specs.List.{concat}
 use Rattle.std.proofs.Common.{◌≡◌, ℕ, true, List, [], ◌∷◌, ◌++◌, Result, Ok, Err, is_ok, OnOk, Some, length, arith, refl, sym, subst, ap, ◌∙◌, inl, rules}
 use Rattle.std.proofs.lemmas.Bool.{false≢true}
 use Rattle.demangle_legacy.specs.Legacy.{legacy_of}
-use Rattle.demangle_legacy.specs.Unescaped.{legacy_pieces}
+use Rattle.rustc_demangle.specs.Shape.{legacy_pieces}
 use Rattle.demangle_legacy.proofs.LegacyLaws.{legacy_read}
 use Rattle.demangle_sink.specs.Cut.{cut}
 use Rattle.demangle_sink.specs.declared.SinkRefused.{SinkRefused}
@@ -41,7 +41,7 @@ returns-then-allowed-clause-took g c = λ is.
     let printed = c.demangle_printed-read.new.out in
     let suffix = c.in-Some.suffix.now in
     let put = c.put_piece.result in
-    let prints = rw c.form.ensures at c.in-Some.ensures.prints in
+    let prints = c.in-Some.ensures.prints in
     let both =
     puts_then g.S.TextSink c.args.out.now _ c.put_piece.new.out _ (suffix ∷ []) (Ok tt) put
     (prints_cut_all g.S.TextSink c.new-limited.result printed _ _ _ _ (Ok tt) c.new-limited.ensures.text c.new-limited.ensures.left prints (prints.open_ refl) (search rules))

@@ -1,15 +1,16 @@
 use Rattle.std.specs.Prelude.{IsAscii}
 use Rattle.std.specs.List.{concat}
-use Rattle.std.proofs.Common.{◌≡◌, ◌≤◌, ℕ, true, List, [], ◌∷◌, ◌++◌, Result, Ok, Err, is_ok, OnOk, Some, length, arith, refl, sym, subst, ap, ◌∙◌, inr, rules}
+use Rattle.std.proofs.Common.{◌≡◌, ◌≤◌, ℕ, Bool, true, List, [], ◌∷◌, ◌++◌, Result, Ok, Err, is_ok, OnOk, Some, length, arith, refl, sym, subst, ap, ◌∙◌, inr, rules}
 use Rattle.std.proofs.lemmas.Bool.{false≢true}
 use Rattle.demangle_legacy.specs.Legacy.{elements_of}
-use Rattle.demangle_v0_grammar.specs.Reading.{path_texts}
+use Rattle.rustc_demangle.specs.Shape.{is_all, marked_unless, path_texts, texts_within}
 use Rattle.demangle_v0_grammar.specs.V0.{v0_of}
 use Rattle.demangle_v0_grammar.proofs.V0Reading.{read_is_v0}
 use Rattle.demangle_sink.specs.Cut.{cut, size}
 use Rattle.demangle_sink.specs.declared.SinkRefused.{SinkRefused}
+use Rattle.demangle_sink.specs.Limit.{PrintsUpTo}
 use Rattle.demangle_sink.proofs.PutsPiecesLemmas.{puts_then, puts_text}
-use Rattle.demangle_sink.proofs.PrintsLemmas.{cut-within, prints_cut_all}
+use Rattle.demangle_sink.proofs.PrintsLemmas.{cut-within, cut_all}
 use Rattle.rustc_demangle.specs.Filtered.{replacement_in}
 use Rattle.rustc_demangle.specs.Stripped.{is_allowed, stripped}
 use Rattle.rustc_demangle.specs.Symbols.{IsSymbol, form_of}
@@ -19,6 +20,7 @@ use Rattle.rustc_demangle.proofs.MemoLemmas.{symbol_replaced}
 use Rattle.rustc_demangle.proofs.PrintingLaws.{handed-some_of}
 use Rattle.rustc_demangle.proofs.Stripping.{IsAscii-stripped, stripped-shorter}
 use Rattle.rustc_demangle.proofs.SymbolLemmas.{pieces-v0, suffix-shorter}
+use Rattle.rustc_demangle.proofs.AllReferences.{up_to, up_to_all}
 use Rattle.rustc_demangle.proofs.value.printing.print_v0_run.Goals as goal
 
 -- pieces within the lower limit are cut at neither
@@ -50,14 +52,21 @@ returns-then-is_ok-clause-took g c = λ _.
     let inner = c.in-Symbol.symbol in
     let suffix = c.in-Symbol.suffix.now in
     let put = c.put_piece.result in
-    let prints = rw c.form.ensures at c.in-Symbol.ensures.known.1 in
+    let form = form_of c.args.format in
+    let texts = texts_within inner form in
+    let up = up_to g.S.TextSink c.with_references-limited.result printed inner form (Ok tt) c.with_references-limited.ensures.references c.in-Symbol.ensures.known.1 in
+    let all : is_all inner form ≡ true = up_to_all g.S.TextSink c.with_references-limited.result printed texts (is_all inner form) up in
+    let prints = subst (λ (b : Bool). PrintsUpTo g.S.TextSink c.with_references-limited.result texts b (Ok tt) printed) all up in
     let both =
     puts_then g.S.TextSink c.args.out.now _ c.put_piece.new.out _ (suffix ∷ []) (Ok tt) put
-    (prints_cut_all g.S.TextSink c.new-limited.result printed _ _ _ _ (Ok tt) c.new-limited.ensures.text c.new-limited.ensures.left prints (prints.open_ refl) (search rules))
+    (cut_all g.S.TextSink c.with_references-limited.result printed _ _ _ texts true (Ok tt) c.with_references-limited.ensures.text c.with_references-limited.ensures.left prints (prints.open_ refl) (search rules))
     refl c.put_piece.ensures in
     let took = puts_text g.S.TextSink c.args.out.now c.put_piece.new.out _ put laws.took_nothing laws.took_joined both in
-    let within : size (path_texts inner (form_of c.args.format)) ≤ c.text_limit-limit.result = omega (arith, prints.within refl, c.new-limited.ensures.left) in
-    let limited = same_cut (path_texts inner (form_of c.args.format)) c.text_limit-limit.result c.args.format.limit within c.text_limit-limit.ensures in
+    let within : size texts ≤ c.text_limit-limit.result = omega (arith, prints.within refl, c.with_references-limited.ensures.left) in
+    let whole_texts : texts ≡ path_texts inner form = ap (λ (b : Bool). marked_unless b texts) (sym all) in
+    let limited =
+    same_cut texts c.text_limit-limit.result c.args.format.limit within c.text_limit-limit.ensures
+    ∙ ap (λ (xs : List (List ℕ)). cut xs c.args.format.limit) whole_texts in
     let allowed = sym c.is_allowed-allowed.ensures.allowed ∙ c.if-allowed.true in
     let whole = v0_replaced c.args.run.now c.without_thin_lto-text.result.now inner suffix c.args.format c.without_thin_lto-text.ensures c.in-Symbol.ensures.known.0 allowed in
     let text = ap (λ (pieces : List (List ℕ)). concat (pieces ++ suffix ∷ [])) limited ∙ whole in

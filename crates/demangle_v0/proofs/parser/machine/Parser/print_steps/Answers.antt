@@ -4,8 +4,8 @@ use Rattle.demangle_v0_grammar.specs.Reading.{Form}
 use Rattle.demangle_v0.specs.Loops.{ValidUnfinished, printing}
 use Rattle.demangle_v0.specs.declared.parser.frames.Frame.{Frame}
 use Rattle.demangle_v0.specs.declared.parser.steps.Checkpoint.{Checkpoint}
-use Rattle.demangle_v0.specs.declared.printer.Unfinished.{Unfinished}
-use Rattle.demangle_v0.specs.declared.printer.Unfinished.TheVariants as left
+use Rattle.demangle_v0.specs.declared.parser.steps.Unfinished.{Unfinished}
+use Rattle.demangle_v0.specs.declared.parser.steps.Unfinished.TheVariants as left
 use Rattle.demangle_sink.specs.declared.SinkRefused.{SinkRefused}
 use Rattle.demangle_v0.proofs.Parsers.{left_as}
 use Rattle.demangle_v0.proofs.LoopLemmas.{valid_resumes, resumes_length, first_resumes, ran_then, ran_resumes}
@@ -13,7 +13,7 @@ use Rattle.demangle_v0.proofs.StepRuns.{steps_as, steps_broke, steps_less, steps
 use Rattle.demangle_v0.proofs.PrintLoop.{ran_fail, ran_left, ran_skips}
 use Rattle.demangle_v0.proofs.Pace.{own_left}
 use Rattle.demangle_v0.proofs.SkipPace.{resumed_place}
-use Rattle.demangle_v0.proofs.ImplPathSteps.{skip_unread, skipped_valid, skipped_less, skips_valid}
+use Rattle.demangle_v0.proofs.SkipSteps.{skip_unread, skipped_valid, skipped_less, skips_valid}
 use Rattle.demangle_v0.proofs.parser.machine.Parser.print_steps.Goals as goal
 
 pub skip_for_fuel-requires : goal.skip_for_fuel-requires
@@ -23,7 +23,7 @@ skip_for_fuel-requires g c = record { skipped = sym c.is_skipped.ensures ∙ c.i
 not_full : (b : List ℕ) (form : Form) (n : ℕ) (result : Result (Option Unfinished) SinkRefused) (r : Checkpoint) (stack : List Frame) (looks : ℕ) → ValidUnfinished b form n result r stack looks → ValidUnfinished b form 0 result r stack looks
 not_full b form n (Ok None) r stack looks v = v
 not_full b form n (Ok (Some left.Printing)) r stack looks v = (v.0, omega arith)
-not_full b form n (Ok (Some (left.ImplPath base at))) r stack looks v = (v.0, v.1, v.2, omega arith)
+not_full b form n (Ok (Some (left.Skipping base at))) r stack looks v = (v.0, v.1, v.2, omega arith)
 not_full b form n (Err e) r stack looks v = v
 
 pub returns-then-not-pay_step-clause-paced : goal.returns-then-not-pay_step-clause-paced

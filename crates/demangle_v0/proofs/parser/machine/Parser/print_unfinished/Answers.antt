@@ -4,12 +4,12 @@ use Rattle.demangle_v0.proofs.PrintLoop.{passed_ran, passed_valid, ran_joins, fi
 use Rattle.demangle_v0.proofs.parser.machine.Parser.print_unfinished.Goals as goal
 
 pub returns-in-Some-clause-ran : goal.returns-in-Some-clause-ran
-returns-in-Some-clause-ran g c = λ p began ran. finished_ran c.finish_impl_path.new.self.stack.room c.args.left c.in-Some.more ran c.in-Some.ensures.finishes
+returns-in-Some-clause-ran g c = λ p began ran. finished_ran c.finish_skip.new.self.stack.room c.args.left c.in-Some.more ran c.in-Some.ensures.finishes
 
 pub returns-in-Some-clause-valid : goal.returns-in-Some-clause-valid
 returns-in-Some-clause-valid g c =
     let d = c.in-Some.ensures in
-    left_as c.finish_impl_path.new.self.stack.room c.args.self.now c.finish_impl_path.new.self (Ok (Some c.in-Some.more)) d.same (finished_valid c.args.self.now.source.symbol.now c.args.self.now.source.form 0 c.finish_impl_path.new.self.stack.room _ _ c.args.left c.in-Some.more _ _ _ _ c.requires.valid d.finishes)
+    left_as c.finish_skip.new.self.stack.room c.args.self.now c.finish_skip.new.self (Ok (Some c.in-Some.more)) d.same (finished_valid c.args.self.now.source.symbol.now c.args.self.now.source.form 0 c.finish_skip.new.self.stack.room _ _ c.args.left c.in-Some.more _ _ _ _ c.requires.valid d.finishes)
 
 pub print_steps-requires : goal.print_steps-requires
 print_steps-requires g c =

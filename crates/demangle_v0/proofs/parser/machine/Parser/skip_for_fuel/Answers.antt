@@ -15,19 +15,19 @@ same_place e = cc
 pub returns-in-Some-clause-most : goal.returns-in-Some-clause-most
 returns-in-Some-clause-most c = λ at.
     let m = c.args.self.now in
-    let k = c.skip_impl_path.new.self in
+    let k = c.skip_part.new.self in
     full_most m k at.0 c.requires.skipped at.1 at.2 c.in-Some.left c.in-Some.ensures.unfinished
 
 pub returns-clause-most : goal.returns-clause-most
 returns-clause-most c = λ at.
     let m = c.args.self.now in
-    let k = c.skip_impl_path.new.self in
+    let k = c.skip_part.new.self in
     over_most m k at.0 c.requires.skipped at.1 at.2 c.in_default.ensures.following
 
 pub returns-clause-paced : goal.returns-clause-paced
 returns-clause-paced c = λ at some.
     let m = c.args.self.now in
-    let k = c.skip_impl_path.new.self in
+    let k = c.skip_part.new.self in
     let known = c.fuel_after-left.ensures.known some in
     let from = place_in _ known.0 (c.fuel_after-left.ensures.paid some) in
     let to = place_in _ known.1 from.2 in

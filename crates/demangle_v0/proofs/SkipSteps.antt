@@ -14,7 +14,7 @@ use Rattle.demangle_v0_grammar.specs.LookTotals.{allowed_in}
 use Rattle.demangle_v0.specs.Measure.{most_frames, weight_left, weights, measure}
 use Rattle.demangle_v0.specs.Steps.{Machine}
 use Rattle.demangle_v0.specs.Traces.{allows_looks, with_actions, trace_at, trace_of_state, trace_of_stack, remaining_trace, with_closed_bracket}
-use Rattle.demangle_v0.specs.Loops.{ResumesAt, Valid, frame_height, Reads, ReadDone, no_output_env, no_output_machine, Skipped, StopsInImplPath, ReadsImplPath, ValidUnfinished, impl_path_state, impl_path_checkpoint, impl_path_trace, state_at, first_looks}
+use Rattle.demangle_v0.specs.Loops.{ResumesAt, Valid, frame_height, Reads, ReadDone, no_output_env, no_output_machine, Skipped, StopsInPart, ReadsPart, ValidUnfinished, part_state, part_checkpoint, part_trace, state_at, first_looks}
 use Rattle.demangle_v0.specs.Parsers.{FinishesSkip, IsValid, UnfinishedIsValid, SkipsFull, SkipsOver, checked_at, checkpoint_of}
 use Rattle.demangle_v0.specs.declared.parser.machine.Parser.{Parser}
 use Rattle.demangle_v0_tokens.specs.declared.output.NoOutput.{NoOutput}
@@ -24,8 +24,8 @@ use Rattle.demangle_v0.specs.declared.parser.frames.Frame.{Frame}
 use Rattle.demangle_v0.specs.declared.parser.State.{State}
 use Rattle.demangle_v0.specs.declared.parser.steps.ReadOutcome.TheVariants as halt
 use Rattle.demangle_v0.specs.declared.parser.steps.Checkpoint.{Checkpoint}
-use Rattle.demangle_v0.specs.declared.printer.Unfinished.{Unfinished}
-use Rattle.demangle_v0.specs.declared.printer.Unfinished.TheVariants as left
+use Rattle.demangle_v0.specs.declared.parser.steps.Unfinished.{Unfinished}
+use Rattle.demangle_v0.specs.declared.parser.steps.Unfinished.TheVariants as left
 use Rattle.demangle_v0_grammar.proofs.Folded.{folded_reads, silently_closed, silently_open}
 use Rattle.demangle_v0_grammar.proofs.TraceLemmas.{allowing_then}
 use Rattle.demangle_v0.proofs.Heights.{has_room_on}
@@ -52,8 +52,8 @@ resumes_less b form out {q = q} x = omega (arith, resume_light x, way_light q, a
 abbrev pub read_own : List ℕ → Form → Continuation → ℕ → ℕ → ℕ → Place → Bool → Trace
 read_own b form p c left n i o = trace_at b form false (skipped_continuation p) false c left n i o
 
-pub own_is : (b : List ℕ) (form : Form) (p : Continuation) (s : State) → impl_path_trace b form p s ≡ read_own b form p s.letter s.depth_left s.lifetimes s.place s.is_bracket_open
-own_is b form p s = remaining_trace-empty_stack b form false (skipped_continuation p) (impl_path_state s)
+pub own_is : (b : List ℕ) (form : Form) (p : Continuation) (s : State) → part_trace b form p s ≡ read_own b form p s.letter s.depth_left s.lifetimes s.place s.is_bracket_open
+own_is b form p s = remaining_trace-empty_stack b form false (skipped_continuation p) (part_state s)
 
 abbrev pub read_path : List ℕ → Form → ℕ → ℕ → Place → Trace
 read_path b form left n i = with_closed_bracket (of form false (unit_outcome (context_at b form false left n) a_path false i))
@@ -78,7 +78,7 @@ skip_at continuation.FirstTraitArgument b form v c left n i o k =
 skip_at p b form v c left n i o k = absurd (false≢true k)
 
 skip_owed : (p : Continuation) (b : List ℕ) (form : Form) (s : State) (stack : List Frame) → is_skipped form p ≡ true
-    → remaining_trace b form true p s stack ≡ with_actions true (allows_looks (allowances (impl_path_trace b form p s).events) ∷ []) (remaining_trace b form true (after_skip p) (state_at s (impl_path_trace b form p s).place) stack)
+    → remaining_trace b form true p s stack ≡ with_actions true (allows_looks (allowances (part_trace b form p s).events) ∷ []) (remaining_trace b form true (after_skip p) (state_at s (part_trace b form p s).place) stack)
 skip_owed p b form s stack k =
     let own_looks = read_own b form p s.letter s.depth_left s.lifetimes s.place s.is_bracket_open in
     subst (λ (h : Trace). remaining_trace b form true p s stack ≡ with_looks (allowances h.events) (remaining_trace b form true (after_skip p) (state_at s h.place) stack)) (sym (own_is b form p s))
@@ -87,7 +87,7 @@ skip_owed p b form s stack k =
 
 -- The invariant in such a part.
 
-own_valid : (form : Form) (p : Continuation) (s : State) (stack : List Frame) → is_skipped form p ≡ true → Valid p s stack → Valid (skipped_continuation p) (impl_path_state s) stack
+own_valid : (form : Form) (p : Continuation) (s : State) (stack : List Frame) → is_skipped form p ≡ true → Valid p s stack → Valid (skipped_continuation p) (part_state s) stack
 own_valid form continuation.TraitImplPath s stack k v = record { has_room = has_room_on frame_height most_frames (8 * s.depth_left + 2) (8 * s.depth_left + 1) stack v.has_room (omega arith); fits = v.fits; all_fit = v.all_fit; no_pending_text = v.no_pending_text }
 own_valid form continuation.InherentImplPath s stack k v = record { has_room = has_room_on frame_height most_frames (8 * s.depth_left + 2) (8 * s.depth_left + 1) stack v.has_room (omega arith); fits = v.fits; all_fit = v.all_fit; no_pending_text = v.no_pending_text }
 own_valid form continuation.FirstArgument s stack k v = record { has_room = v.has_room; fits = v.fits; all_fit = v.all_fit; no_pending_text = v.no_pending_text }
@@ -114,12 +114,12 @@ module _ {b : List ℕ} {form : Form} {p q : Continuation} {s t : State} {below 
   pub skipped_valid : Skipped b form p s below began q t now looks → Valid p s below → Valid q t now
   skipped_valid z v = rw (z.at, z.state, z.is_stack) (after_valid form p s z.place below k v)
 
-  pub skipped_trace : Skipped b form p s below began q t now looks → remaining_trace b form true p s below ≡ with_actions true (allows_looks (allowances (impl_path_trace b form p s).events) ∷ []) (remaining_trace b form true q t now)
+  pub skipped_trace : Skipped b form p s below began q t now looks → remaining_trace b form true p s below ≡ with_actions true (allows_looks (allowances (part_trace b form p s).events) ∷ []) (remaining_trace b form true q t now)
   skipped_trace z = rw (z.at, z.state, z.is_stack, sym z.ends) (skip_owed p b form s below k)
 
   pub skipped_less : {base : ℕ} {o : Continuation} {r : State} {stack : List Frame} → ResumesAt base o r stack p s below → Skipped b form p s below began q t now looks → measure b form true q t now < measure b form true o r stack
   skipped_less x z =
-      let ks = allowances (impl_path_trace b form p s).events in
+      let ks = allowances (part_trace b form p s).events in
       omega (
         arith,
         resumes_less b form true x,
@@ -133,18 +133,18 @@ module _ {b : List ℕ} {form : Form} {p q : Continuation} {s t : State} {below 
 -- The part is read in one stack or in two.
 
 -- at its start
-own_stands : (form : Form) {p : Continuation} {s : State} {stack : List Frame} {r : Checkpoint} → is_skipped form p ≡ true → r ≡ impl_path_checkpoint (record { continuation = p; state = s }) → Valid p s stack → Valid r.continuation r.state stack
+own_stands : (form : Form) {p : Continuation} {s : State} {stack : List Frame} {r : Checkpoint} → is_skipped form p ≡ true → r ≡ part_checkpoint (record { continuation = p; state = s }) → Valid p s stack → Valid r.continuation r.state stack
 own_stands form {p} {s} {stack} e k v = rw k (own_valid form p s stack e v)
 
-pub own_reads : (b : List ℕ) (form : Form) (n : ℕ) (r : Checkpoint) {stack : List Frame} {inner : Checkpoint} → inner ≡ impl_path_checkpoint r → ReadsImplPath b form stack r n inner stack n
-own_reads b form n r {stack} k = rw k (reads_none {t = no_output_machine (impl_path_state r.state) stack n} (sym (append-nil stack)) tt)
+pub own_reads : (b : List ℕ) (form : Form) (n : ℕ) (r : Checkpoint) {stack : List Frame} {inner : Checkpoint} → inner ≡ part_checkpoint r → ReadsPart b form stack r n inner stack n
+own_reads b form n r {stack} k = rw k (reads_none {t = no_output_machine (part_state r.state) stack n} (sym (append-nil stack)) tt)
 
 -- if the stack is full
-pub skips_valid : {b : List ℕ} {form : Form} {r to : Checkpoint} {below now : List Frame} {began n looks : ℕ} {x : Unfinished} → is_skipped form r.continuation ≡ true → Valid r.continuation r.state below → StopsInImplPath b form r below began x n to now looks
+pub skips_valid : {b : List ℕ} {form : Form} {r to : Checkpoint} {below now : List Frame} {began n looks : ℕ} {x : Unfinished} → is_skipped form r.continuation ≡ true → Valid r.continuation r.state below → StopsInPart b form r below began x n to now looks
     → ValidUnfinished b form n (Ok (Some x)) to now looks
 skips_valid {below = below} {began = began} e v k = rw k.is_left (began, record { below = below; height = sym k.height; skips = e; valid = v; reads = k.reads }, k.valid, k.full)
 
-module _ {b : List ℕ} {form : Form} {below : List Frame} {began m : ℕ} {p q : Continuation} {t : State} {stack : List Frame} {u : Machine NoOutput} (o : Checkpoint) (r : Reads (no_output_env b form) below (skipped_continuation o.continuation) (no_output_machine (impl_path_state o.state) [] began) p (no_output_machine t stack m)) where
+module _ {b : List ℕ} {form : Form} {below : List Frame} {began m : ℕ} {p q : Continuation} {t : State} {stack : List Frame} {u : Machine NoOutput} (o : Checkpoint) (r : Reads (no_output_env b form) below (skipped_continuation o.continuation) (no_output_machine (part_state o.state) [] began) p (no_output_machine t stack m)) where
   -- the part ended
   pub own_over : {to : Continuation} {new : State} → ReadDone (no_output_env b form) below p (no_output_machine t r.frames m) halt.Complete q u → to ≡ after_skip o.continuation → new ≡ state_at o.state u.state.place → Skipped b form o.continuation o.state below began to new u.stack u.looks
   own_over d e k =
@@ -167,29 +167,29 @@ module _ {b : List ℕ} {form : Form} {below : List Frame} {began m : ℕ} {p q 
       }
 
   -- the stack is full
-  pub own_full : ReadDone (no_output_env b form) below p (no_output_machine t r.frames m) halt.StackFull q u → Reads (no_output_env b form) below (skipped_continuation o.continuation) (no_output_machine (impl_path_state o.state) [] began) q u
+  pub own_full : ReadDone (no_output_env b form) below p (no_output_machine t r.frames m) halt.StackFull q u → Reads (no_output_env b form) below (skipped_continuation o.continuation) (no_output_machine (part_state o.state) [] began) q u
   own_full d = record { frames = d.reads.frames; is_stack = d.reads.is_stack; inner = d.reads.inner; ran = ran_then r.ran d.reads.ran }
 
 -- A part that is read from its start.
 
 module _ (m : Parser) (base : ℕ) where
   abbrev inside : Parser
-  inside = checked_at m (skipped_continuation m.continuation) (impl_path_state m.state)
+  inside = checked_at m (skipped_continuation m.continuation) (part_state m.state)
 
-  abbrev begins : ReadsImplPath m.source.symbol.now m.source.form m.stack.frames (checkpoint_of m) m.looks (impl_path_checkpoint (checkpoint_of m)) m.stack.frames m.looks
+  abbrev begins : ReadsPart m.source.symbol.now m.source.form m.stack.frames (checkpoint_of m) m.looks (part_checkpoint (checkpoint_of m)) m.stack.frames m.looks
   begins = own_reads m.source.symbol.now m.source.form m.looks (checkpoint_of m) refl
 
-  pub skip_begins : is_skipped m.source.form m.continuation ≡ true → base ≡ length m.stack.frames → IsValid m → UnfinishedIsValid 0 (Ok (Some (left.ImplPath base (checkpoint_of m)))) inside
+  pub skip_begins : is_skipped m.source.form m.continuation ≡ true → base ≡ length m.stack.frames → IsValid m → UnfinishedIsValid 0 (Ok (Some (left.Skipping base (checkpoint_of m)))) inside
   skip_begins e h v = (m.looks, record { below = m.stack.frames; height = sym h; skips = e; valid = v; reads = begins }, own_stands m.source.form e refl v, omega arith)
 
-  pub skips_over : (k : Parser) (result : Option Unfinished) → base ≡ length m.stack.frames → FinishesSkip inside (left.ImplPath base (checkpoint_of m)) result k → IfNone result (SkipsOver m k)
+  pub skips_over : (k : Parser) (result : Option Unfinished) → base ≡ length m.stack.frames → FinishesSkip inside (left.Skipping base (checkpoint_of m)) result k → IfNone result (SkipsOver m k)
   skips_over k None h f = f m.stack.frames m.looks begins (sym h)
   skips_over k (Some x) h f = tt
 
-  pub skips_full : (k : Parser) (result : Option Unfinished) → base ≡ length m.stack.frames → FinishesSkip inside (left.ImplPath base (checkpoint_of m)) result k → IfSome result (λ x. SkipsFull m x k)
+  pub skips_full : (k : Parser) (result : Option Unfinished) → base ≡ length m.stack.frames → FinishesSkip inside (left.Skipping base (checkpoint_of m)) result k → IfSome result (λ x. SkipsFull m x k)
   skips_full k None h f = tt
   skips_full k (Some left.Printing) h f = absurd f
-  skips_full k (Some (left.ImplPath height r)) h f = record {
+  skips_full k (Some (left.Skipping height r)) h f = record {
     base = base;
     is_left = rw (f.0, f.1) refl;
     height = h;
