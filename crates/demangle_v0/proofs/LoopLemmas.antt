@@ -12,6 +12,7 @@ use Rattle.demangle_v0_tokens.specs.declared.token.Token.TheVariants.{Fixed}
 use Rattle.demangle_v0.specs.Frames as heights
 use Rattle.demangle_v0_grammar.specs.Reading.{Form, Place}
 use Rattle.demangle_v0_grammar.proofs.Failed.{failed}
+use Rattle.demangle_v0_grammar.proofs.FailedRows.{allowed_reference}
 use Rattle.demangle_v0.specs.Measure.{most_frames, weight_left, weight_at, weight_of, weights, height_at, height_of, count_of, FitsFrame, Fits, is_inner, IsInner, AllInner}
 use Rattle.demangle_v0.specs.Traces.{Action, allows_looks, goes_back, puts, with_actions, action_looks, pending_texts, pushed_on, then_frame, trace_of_frame, trace_at, trace_of_state, trace_of_stack, remaining_trace}
 use Rattle.demangle_v0.specs.Steps.{Env, StepPart, Machine, Emission, gives, refers_on, after_emission, Emits, Continued, Stopped, KeepsFrames, PerformsAt}
@@ -53,10 +54,6 @@ allowed_said : (out : Bool) (ts : List Text) (xs : List Event) → allowed_in (t
 allowed_said out [] xs = refl
 allowed_said true (t ∷ ts) xs = allowed_said true ts xs
 allowed_said false (t ∷ ts) xs = allowed_said false ts xs
-
-allowed_reference : (out : Bool) (xs : List Event) → allowed_in (reference_if out xs) ≡ allowed_in xs
-allowed_reference true xs = refl
-allowed_reference false xs = refl
 
 pub reference_then : (out : Bool) (h : Trace) (k : Place → Bool → Trace) → and_then (with_reference out h) k ≡ with_reference out (and_then h k)
 reference_then true h k = refl

@@ -17,13 +17,10 @@ use Rattle.demangle_v0_grammar.proofs.SpelledIsParsed.{spells_read}
 use Rattle.demangle_v0_grammar.proofs.FailedRows.{allowed_append, allowed_looks}
 use Rattle.demangle_v0_grammar.proofs.ItemBudgets.{start}
 use Rattle.demangle_v0_grammar.proofs.ItemLooks.{small}
+use Rattle.demangle_v0_grammar.proofs.LooksLaw.{bytes_append}
 use Rattle.demangle_v0_grammar.proofs.AgainItems.{work_of, same_looks, Goes, Covers, loan, Within, read_goes}
 
 -- The distances.
-
-bytes_append : (xs ys : List LookCost) → bytes_of (xs ++ ys) ≡ bytes_of xs + bytes_of ys
-bytes_append [] ys = omega arith
-bytes_append (x ∷ xs) ys = omega (arith, bytes_append xs ys)
 
 -- the work has the distances of the tree
 again_bytes : (before after : Distance) (t : Tree) → bytes_of (work_of before after t) ≡ again before t + again after t

@@ -11,7 +11,7 @@ allowed_said : (out : Bool) (t : Text) (xs : List Event) → allowed_in (text_if
 allowed_said true t xs = refl
 allowed_said false t xs = refl
 
-allowed_reference : (out : Bool) (xs : List Event) → allowed_in (reference_if out xs) ≡ allowed_in xs
+pub allowed_reference : (out : Bool) (xs : List Event) → allowed_in (reference_if out xs) ≡ allowed_in xs
 allowed_reference true xs = refl
 allowed_reference false xs = refl
 

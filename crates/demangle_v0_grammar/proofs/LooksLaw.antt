@@ -125,7 +125,7 @@ failed_looks p s plain =
     let w : looks_of (costs_of plain (parse p s None).tree) + 0 ≤ 0 + 0 * bytes_of (costs_of plain (parse p s None).tree) = IsWithinBudget-whole 0 0 0 (costs_of plain (parse p s None).tree) q.1 in
     omega (arith, w)
 
-bytes_append : (xs ys : List LookCost) → bytes_of (xs ++ ys) ≡ bytes_of xs + bytes_of ys
+pub bytes_append : (xs ys : List LookCost) → bytes_of (xs ++ ys) ≡ bytes_of xs + bytes_of ys
 bytes_append [] ys = omega arith
 bytes_append (x ∷ xs) ys = omega (arith, bytes_append xs ys)
 

@@ -3,15 +3,12 @@ use Rattle.std.specs.Prelude.{ℕ, ◌*◌}
 use Rattle.std.proofs.Common.{◌≡◌, ◌+◌, ◌-◌, Bool, true, false, List, [], ◌∷◌, ◌++◌, length, refl, ap, sym, ◌∙◌, subst, append_assoc, arith}
 use Rattle.std.proofs.lemmas.List.{map-append, append-nil}
 use Rattle.demangle_v0_grammar.specs.LookBudget.{LookCost, IsWithinBudget}
-use Rattle.demangle_v0_grammar.specs.Traces.{Event, events}
+use Rattle.demangle_v0_grammar.specs.Traces.{Event, events, cost_of}
 use Rattle.demangle_v0_grammar.specs.Reading.{Tree, nothing, piece, plain_piece, node, looked, unprinted, referred, costs_of, looks_only, looks}
-use Rattle.demangle_v0_grammar.proofs.BudgetRules.{IsWithinBudget-more}
+use Rattle.demangle_v0_grammar.proofs.BudgetRules.{IsWithinBudget-more, IsWithinBudget-parts, IsWithinBudget-mapped}
 use Rattle.demangle_v0_grammar.proofs.PrintingSteps.{weighed}
 
 -- A budget that pays for the costs of a tree pays for its events.
-
-weighed_append : (xs ys : List Event) → weighed (xs ++ ys) ≡ weighed xs ++ weighed ys
-weighed_append xs ys = map-append _ xs ys
 
 unheard_append : (xs ys : List LookCost) → looks_only (xs ++ ys) ≡ looks_only xs ++ looks_only ys
 unheard_append xs ys = map-append _ xs ys
@@ -24,12 +21,6 @@ unheard_twice (x ∷ xs) = ap (λ (zs : List LookCost). looks x.looks ∷ zs) (u
 free : (r a c : ℕ) (xs : List LookCost) → IsWithinBudget r (a - 0 + r * 0) xs c → IsWithinBudget r a xs c
 free r a c xs h = IsWithinBudget-more r (a - 0 + r * 0) a c c 0 xs (omega arith) (omega arith) h
 
-split : (r a c : ℕ) (xs ys zs all : List LookCost) → all ≡ xs ++ ys → IsWithinBudget r a (all ++ zs) c → IsWithinBudget r a (xs ++ (ys ++ zs)) c
-split r a c xs ys zs all e h = subst (λ ws. IsWithinBudget r a ws c) (ap (λ ws. ws ++ zs) e ∙ append_assoc xs ys zs) h
-
-joined : (r a c : ℕ) (xs ys : List Event) (zs : List LookCost) → IsWithinBudget r a (weighed xs ++ (weighed ys ++ zs)) c → IsWithinBudget r a (weighed (xs ++ ys) ++ zs) c
-joined r a c xs ys zs h = subst (λ ws. IsWithinBudget r a ws c) (sym (ap (λ ws. ws ++ zs) (weighed_append xs ys) ∙ append_assoc (weighed xs) (weighed ys) zs)) h
-
 -- for a parse without output
 pays_quiet : (r c : ℕ) (plain : Bool) (t : Tree) (ys zs : List LookCost) → ((a : ℕ) → IsWithinBudget r a ys c → IsWithinBudget r a zs c) → (a : ℕ) → IsWithinBudget r a (looks_only (costs_of plain t) ++ ys) c → IsWithinBudget r a (weighed (events plain false t) ++ zs) c
 pays_quiet r c plain nothing ys zs f a h = f a h
@@ -37,14 +28,14 @@ pays_quiet r c plain (piece x rest) ys zs f a h = pays_quiet r c plain rest ys z
 pays_quiet r c true (plain_piece x rest) ys zs f a h = pays_quiet r c true rest ys zs f a (free r a c _ h.1)
 pays_quiet r c false (plain_piece x rest) ys zs f a h = pays_quiet r c false rest ys zs f a h
 pays_quiet r c plain (node inside rest) ys zs f a h =
-    joined r a c (events plain false inside) (events plain false rest) zs
+    IsWithinBudget-mapped cost_of r a c (events plain false inside) (events plain false rest) zs
     (pays_quiet r c plain inside (looks_only (costs_of plain rest) ++ ys) (weighed (events plain false rest) ++ zs) (λ a'. pays_quiet r c plain rest ys zs f a') a
-    (split r a c (looks_only (costs_of plain inside)) (looks_only (costs_of plain rest)) ys _ (unheard_append (costs_of plain inside) (costs_of plain rest)) h))
+    (IsWithinBudget-parts r a c (looks_only (costs_of plain inside)) (looks_only (costs_of plain rest)) ys _ (unheard_append (costs_of plain inside) (costs_of plain rest)) h))
 pays_quiet r c plain (looked k rest) ys zs f a h = (h.0, pays_quiet r c plain rest ys zs f (a - k + r * 0) h.1)
 pays_quiet r c plain (unprinted inside rest) ys zs f a h =
-    joined r a c (events plain false inside) (events plain false rest) zs
+    IsWithinBudget-mapped cost_of r a c (events plain false inside) (events plain false rest) zs
     (pays_quiet r c plain inside (looks_only (costs_of plain rest) ++ ys) (weighed (events plain false rest) ++ zs) (λ a'. pays_quiet r c plain rest ys zs f a') a
-    (split r a c (looks_only (costs_of plain inside)) (looks_only (costs_of plain rest)) ys _ (unheard_append (looks_only (costs_of plain inside)) (costs_of plain rest) ∙ ap (λ ws. ws ++ looks_only (costs_of plain rest)) (unheard_twice (costs_of plain inside))) h))
+    (IsWithinBudget-parts r a c (looks_only (costs_of plain inside)) (looks_only (costs_of plain rest)) ys _ (unheard_append (looks_only (costs_of plain inside)) (costs_of plain rest) ∙ ap (λ ws. ws ++ looks_only (costs_of plain rest)) (unheard_twice (costs_of plain inside))) h))
 pays_quiet r c plain (referred t j end inside) ys zs f a h = pays_quiet r c plain inside ys zs f a h
 pays_quiet r c plain _ ys zs f a h = f a (free r a c ys h.1)
 
@@ -55,14 +46,14 @@ pays_events r c plain (piece x rest) ys zs f a h = (h.0, pays_events r c plain r
 pays_events r c true (plain_piece x rest) ys zs f a h = (h.0, pays_events r c true rest ys zs f (a - 0 + r * length x) h.1)
 pays_events r c false (plain_piece x rest) ys zs f a h = pays_events r c false rest ys zs f a h
 pays_events r c plain (node inside rest) ys zs f a h =
-    joined r a c (events plain true inside) (events plain true rest) zs
+    IsWithinBudget-mapped cost_of r a c (events plain true inside) (events plain true rest) zs
     (pays_events r c plain inside (costs_of plain rest ++ ys) (weighed (events plain true rest) ++ zs) (λ a'. pays_events r c plain rest ys zs f a') a
-    (split r a c (costs_of plain inside) (costs_of plain rest) ys _ refl h))
+    (IsWithinBudget-parts r a c (costs_of plain inside) (costs_of plain rest) ys _ refl h))
 pays_events r c plain (looked k rest) ys zs f a h = (h.0, pays_events r c plain rest ys zs f (a - k + r * 0) h.1)
 pays_events r c plain (unprinted inside rest) ys zs f a h =
-    joined r a c (events plain false inside) (events plain true rest) zs
+    IsWithinBudget-mapped cost_of r a c (events plain false inside) (events plain true rest) zs
     (pays_quiet r c plain inside (costs_of plain rest ++ ys) (weighed (events plain true rest) ++ zs) (λ a'. pays_events r c plain rest ys zs f a') a
-    (split r a c (looks_only (costs_of plain inside)) (costs_of plain rest) ys _ refl h))
+    (IsWithinBudget-parts r a c (looks_only (costs_of plain inside)) (costs_of plain rest) ys _ refl h))
 pays_events r c plain (referred t j end inside) ys zs f a h = (omega arith, IsWithinBudget-more r a (a - 0 + r * 0) c c 0 _ (omega arith) (omega arith) (pays_events r c plain inside ys zs f a h))
 pays_events r c plain _ ys zs f a h = (h.0, f _ h.1)
 

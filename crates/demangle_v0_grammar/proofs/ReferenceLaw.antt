@@ -8,7 +8,7 @@ use Rattle.demangle_v0_grammar.specs.Reading.{Tree, nothing, piece, plain_piece,
 use Rattle.demangle_v0_grammar.specs.Traces.{Event, prints_text, allows, refers, text_if, events, moves_in}
 use Rattle.demangle_v0_grammar.specs.References.{Move, says, follows, moves, texts_before, is_whole, path_moves, path_texts_before, is_path_whole}
 use Rattle.demangle_v0_grammar.specs.Again.{Distance, no_distance}
-use Rattle.demangle_v0_grammar.proofs.BudgetRules.{IsWithinBudget-more}
+use Rattle.demangle_v0_grammar.proofs.BudgetRules.{IsWithinBudget-more, IsWithinBudget-parts, IsWithinBudget-mapped}
 use Rattle.demangle_v0_grammar.proofs.AgainItems.{work_of, Goes, Covers, loan, read_goes}
 use Rattle.demangle_v0_grammar.proofs.AgainLaw.{loans}
 use Rattle.demangle_v0_grammar.proofs.PrintingSteps.{quiet_moves}
@@ -99,12 +99,6 @@ free r a c xs h = (omega arith, IsWithinBudget-more r a (a - 0 + r * 0) c c 0 xs
 unfree : (r a c : ℕ) (xs : List LookCost) → IsWithinBudget r a (record { bytes = 0; looks = 0 } ∷ xs) c → IsWithinBudget r a xs c
 unfree r a c xs h = IsWithinBudget-more r (a - 0 + r * 0) a c c 0 xs (omega arith) (omega arith) h.1
 
-split : (r a c : ℕ) (xs ys zs : List LookCost) → IsWithinBudget r a ((xs ++ ys) ++ zs) c → IsWithinBudget r a (xs ++ (ys ++ zs)) c
-split r a c xs ys zs h = subst (λ ws. IsWithinBudget r a ws c) (append_assoc xs ys zs) h
-
-joined : (r a c n : ℕ) (xs ys : List Event) (zs : List LookCost) → IsWithinBudget r a (dues n xs ++ (dues n ys ++ zs)) c → IsWithinBudget r a (dues n (xs ++ ys) ++ zs) c
-joined r a c n xs ys zs h = subst (λ ws. IsWithinBudget r a ws c) (sym (ap (λ ws. ws ++ zs) (map-append (due n) xs ys) ∙ append_assoc (dues n xs) (dues n ys) zs)) h
-
 due_text : (r a c n : ℕ) (out : Bool) (t : Text) (xs : List Event) (zs : List LookCost) → IsWithinBudget r a (dues n xs ++ zs) c → IsWithinBudget r a (dues n (text_if out t xs) ++ zs) c
 due_text r a c n true t xs zs h = free r a c (dues n xs ++ zs) h
 due_text r a c n false t xs zs h = h
@@ -116,16 +110,16 @@ pays c n plain out (piece x rest) ys zs q f a h = due_text 17 a c n out x (event
 pays c n plain out (plain_piece x rest) ys zs q f a h = due_text 17 a c n (plain && out) x (events plain out rest) zs (pays c n plain out rest ys zs q f a h)
 pays c n plain out (node inside rest) ys zs q f a h =
     let w = work_of (whole_symbol n) no_distance in
-    joined 17 a c n (events plain out inside) (events plain out rest) zs
-    (pays c n plain out inside (w rest ++ ys) (dues n (events plain out rest) ++ zs) q.0 (λ a'. pays c n plain out rest ys zs q.1 f a') a (split 17 a c (w inside) (w rest) ys h))
+    IsWithinBudget-mapped (due n) 17 a c (events plain out inside) (events plain out rest) zs
+    (pays c n plain out inside (w rest ++ ys) (dues n (events plain out rest) ++ zs) q.0 (λ a'. pays c n plain out rest ys zs q.1 f a') a (IsWithinBudget-parts 17 a c (w inside) (w rest) ys _ refl h))
 pays c n plain out (looked k rest) ys zs q f a h = (h.0, pays c n plain out rest ys zs q f (a - k + 17 * 0) h.1)
 pays c n plain out (unprinted inside rest) ys zs q f a h =
     let w = work_of (whole_symbol n) no_distance in
-    joined 17 a c n (events plain false inside) (events plain out rest) zs
-    (pays c n plain false inside (w rest ++ ys) (dues n (events plain out rest) ++ zs) q.0 (λ a'. pays c n plain out rest ys zs q.1 f a') a (split 17 a c (w inside) (w rest) ys h))
+    IsWithinBudget-mapped (due n) 17 a c (events plain false inside) (events plain out rest) zs
+    (pays c n plain false inside (w rest ++ ys) (dues n (events plain out rest) ++ zs) q.0 (λ a'. pays c n plain out rest ys zs q.1 f a') a (IsWithinBudget-parts 17 a c (w inside) (w rest) ys _ refl h))
 pays c n plain true (referred t j end inside) ys zs q f a h =
     let w = work_of (whole_symbol n) no_distance in
-    (h.0, pays c n plain true inside (record { bytes = 0; looks = 0 } ∷ ys) zs q (λ a' p. f a' (unfree 17 a' c ys p)) (a - 0 + 17 * (n + 1)) (split 17 (a - 0 + 17 * (n + 1)) c (w inside) (record { bytes = 0; looks = 0 } ∷ []) ys h.1))
+    (h.0, pays c n plain true inside (record { bytes = 0; looks = 0 } ∷ ys) zs q (λ a' p. f a' (unfree 17 a' c ys p)) (a - 0 + 17 * (n + 1)) (IsWithinBudget-parts 17 (a - 0 + 17 * (n + 1)) c (w inside) (record { bytes = 0; looks = 0 } ∷ []) ys _ refl h.1))
 pays c n plain false (referred t j end inside) ys zs q f a h = absurd q
 pays c n plain true _ ys zs q f a h = free 17 a c zs (f a h)
 pays c n plain false _ ys zs q f a h = f a h
