@@ -136,7 +136,7 @@ NEW_COUNTS = {
     "rustc_demangle/src/value/printing.rt": {"write_formatted": 1, "write_limited": 1, "write_folded": 1, "write_pieces_with_path_len": 1},
 }
 # Crates that only test.
-TESTING = ("demangle_corpus", "demangle_vectors", "test_doubles")
+TESTING = ("demangle_corpus", "demangle_vectors", "filter_tests", "test_doubles")
 
 
 def new_counts(path):

@@ -65,7 +65,7 @@ class Package(NamedTuple):
 
 # A package comes after the one below it.
 PACKAGES = (
-    Package("kodliwe", ("rustc_demangle",), ("test_doubles", "demangle_vectors"), has_features=True),
+    Package("kodliwe", ("rustc_demangle",), ("test_doubles", "demangle_vectors", "filter_tests"), has_features=True),
     Package("kodliwe-cli", ("kodliwe", "demangle_filter"), ("test_doubles",), "kodliwe", "stream"),
     Package("rustc-demangle"),
     Package("kodliwe-capi", ("demangle_c",), below="kodliwe"),

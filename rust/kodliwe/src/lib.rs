@@ -52,6 +52,8 @@ mod demangle_v0;
 mod demangle_v0_tokens;
 #[cfg(all(test, feature = "stream"))]
 mod demangle_vectors;
+#[cfg(all(test, feature = "stream"))]
+mod filter_tests;
 mod format;
 #[doc(hidden)]
 pub mod internal;

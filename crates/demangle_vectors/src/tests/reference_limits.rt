@@ -1,8 +1,7 @@
 //! Tests of formats that limit the references of a path.
 use rustc_demangle::sink::ArraySink;
-use rustc_demangle::{Form, Format, demangle, demangle_bytes_formatted, demangle_slice_formatted};
+use rustc_demangle::{Form, Format, demangle};
 use std::process::Abort;
-use std::test::Fail;
 
 /// A symbol with two references.
 const SYMBOL: &str = "_RINvC1a1bNtB2_1cNtB2_1dE";
@@ -12,25 +11,6 @@ const PATHS: [(usize, &str); 3] = [
     (0, "a::b::<{size limit reached}"),
     (1, "a::b::<a::c, {size limit reached}"),
     (2, "a::b::<a::c, a::d>"),
-];
-
-const TEXT: &[u8] =
-    b"x _RINvC1a1bNtB2_1cNtB2_1dE y _RINvC1a1bNtB2_1cNtB2_1dE _RINvC1a1bNtB2_1cNtB2_1dE";
-
-/// A limit of references, and what a filter writes for this text.
-const TEXTS: [(Option<usize>, &[u8]); 3] = [
-    (
-        Some(1),
-        b"x a::b::<a::c, {size limit reached} y a::b::<a::c, {size limit reached} a::b::<a::c, {size limit reached}",
-    ),
-    (
-        Some(2),
-        b"x a::b::<a::c, a::d> y a::b::<a::c, a::d> a::b::<a::c, a::d>",
-    ),
-    (
-        None,
-        b"x a::b::<a::c, a::d> y a::b::<a::c, a::d> a::b::<a::c, a::d>",
-    ),
 ];
 
 /// Returns a format with a limit of references.
@@ -86,23 +66,4 @@ fn the_suffix_follows_the_marker(rt: HostRuntime) {
     let symbol = "_RINvC1a1bNtB2_1cNtB2_1dE.rest";
     let text = "a::b::<{size limit reached}.rest";
     assert_prints_in(&rt, symbol, limited(Some(0), false), text);
-}
-
-#[test]
-fn filters_limit_references(rt: HostRuntime) -> Result<(), Fail> {
-    let alloc = rt.alloc();
-    for (references, wanted) in TEXTS {
-        let format = limited(references, false);
-        let mut input = TEXT;
-        let mut output = Vec::new(alloc);
-        if let Err(fault) = demangle_bytes_formatted(alloc, &mut input, &mut output, format) {
-            return Err(fault.into_io().into());
-        }
-        assert_eq!(rt; output.as_slice(), wanted, "by the filter of bytes");
-        let mut memory = [0u8; 256];
-        let len = demangle_slice_formatted(TEXT, &mut memory, format);
-        assert_eq!(rt; len, Some(wanted.len()), "in memory");
-        assert_eq!(rt; memory.get(..wanted.len()), Some(wanted), "in memory");
-    }
-    Ok(())
 }

@@ -1,13 +1,7 @@
 // Made from crates/demangle_vectors/src/tests/reference_limits.rt by packaging/crate/erase.py: edit that file instead.
 //! Tests of formats that limit the references of a path.
 use crate::rustc_demangle::sink::ArraySink;
-use crate::rustc_demangle::{
-    Form, Format, demangle, demangle_bytes_formatted, demangle_slice_formatted,
-};
-use crate::support::rt::HostRuntime;
-use crate::support::vec::Vec;
-
-use crate::support::test::Fail;
+use crate::rustc_demangle::{Form, Format, demangle};
 
 /// A symbol with two references.
 const SYMBOL: &str = "_RINvC1a1bNtB2_1cNtB2_1dE";
@@ -17,25 +11,6 @@ const PATHS: [(usize, &str); 3] = [
     (0, "a::b::<{size limit reached}"),
     (1, "a::b::<a::c, {size limit reached}"),
     (2, "a::b::<a::c, a::d>"),
-];
-
-const TEXT: &[u8] =
-    b"x _RINvC1a1bNtB2_1cNtB2_1dE y _RINvC1a1bNtB2_1cNtB2_1dE _RINvC1a1bNtB2_1cNtB2_1dE";
-
-/// A limit of references, and what a filter writes for this text.
-const TEXTS: [(Option<usize>, &[u8]); 3] = [
-    (
-        Some(1),
-        b"x a::b::<a::c, {size limit reached} y a::b::<a::c, {size limit reached} a::b::<a::c, {size limit reached}",
-    ),
-    (
-        Some(2),
-        b"x a::b::<a::c, a::d> y a::b::<a::c, a::d> a::b::<a::c, a::d>",
-    ),
-    (
-        None,
-        b"x a::b::<a::c, a::d> y a::b::<a::c, a::d> a::b::<a::c, a::d>",
-    ),
 ];
 
 /// Returns a format with a limit of references.
@@ -91,24 +66,4 @@ fn the_suffix_follows_the_marker() {
     let symbol = "_RINvC1a1bNtB2_1cNtB2_1dE.rest";
     let text = "a::b::<{size limit reached}.rest";
     assert_prints_in(symbol, limited(Some(0), false), text);
-}
-
-#[test]
-fn filters_limit_references() -> Result<(), Fail> {
-    let rt = HostRuntime;
-    let alloc = rt.alloc();
-    for (references, wanted) in TEXTS {
-        let format = limited(references, false);
-        let mut input = TEXT;
-        let mut output = Vec::new(alloc);
-        if let Err(fault) = demangle_bytes_formatted(alloc, &mut input, &mut output, format) {
-            return Err(fault.into_io().into());
-        }
-        assert_eq!(output.as_slice(), wanted, "by the filter of bytes");
-        let mut memory = [0u8; 256];
-        let len = demangle_slice_formatted(TEXT, &mut memory, format);
-        assert_eq!(len, Some(wanted.len()), "in memory");
-        assert_eq!(memory.get(..wanted.len()), Some(wanted), "in memory");
-    }
-    Ok(())
 }

@@ -1,14 +1,19 @@
+// Made from crates/filter_tests/src/tests/slices.rt by packaging/crate/erase.py: edit that file instead.
 //! Tests of v0 runs, in memory and by a filter, which prints them before they are known to be
 //! symbols. The expected texts are those of the Rust crate.
-use rustc_demangle::sink::WriteSink;
-use rustc_demangle::{
+use crate::rustc_demangle::sink::WriteSink;
+use crate::rustc_demangle::{
     Format, demangle_bytes_formatted, demangle_slice_formatted, demangle_text_formatted,
 };
-use std::alloc::{AllocError, Global};
+use crate::support::alloc::{AllocError, Global};
+use crate::support::format;
+use crate::support::rt::HostRuntime;
+use crate::support::string::String;
+use crate::support::vec::Vec;
 use std::io::ErrorKind;
-use std::process::Abort;
-use std::test::Fail;
-use test_doubles::streams::ChunkReader;
+
+use crate::support::test::Fail;
+use crate::test_doubles::streams::ChunkReader;
 
 const DIGITS: &[u8] = b"0123456789abcdefghijklmnopqrstuvwxyzABCDEFGHIJKLMNOPQRSTUVWXYZ";
 
@@ -79,20 +84,19 @@ fn arguments(alloc: Global, path: &str, each: &str, count: usize) -> Result<Stri
 }
 
 /// Asserts what a call writes into memory, and that it leaves the rest of the memory.
-fn assert_filters_to(rt: &impl Abort, text: &str, format: Format, wanted: &[u8]) {
+pub(super) fn assert_filters_to(text: &[u8], format: Format, wanted: &[u8]) {
     let mut memory = [7; ROOM];
-    let len = demangle_slice_formatted(text.as_bytes(), &mut memory, format);
-    assert_eq!(rt; len, Some(wanted.len()), "of {text}");
-    assert_eq!(rt; memory.get(..wanted.len()), Some(wanted), "of {text}");
-    assert!(rt;
+    let len = demangle_slice_formatted(text, &mut memory, format);
+    assert_eq!(len, Some(wanted.len()), "of {text:?}");
+    assert_eq!(memory.get(..wanted.len()), Some(wanted), "of {text:?}");
+    assert!(
         memory.iter().skip(wanted.len()).all(|byte| *byte == 7),
-        "the rest of the memory of {text}"
+        "the rest of the memory of {text:?}"
     );
 }
 
 /// Asserts what a filter writes for a text.
 fn assert_filter_writes(
-    rt: &impl Abort,
     alloc: Global,
     text: &str,
     format: Format,
@@ -102,13 +106,13 @@ fn assert_filter_writes(
     let mut input = ChunkReader::new(&parts, usize::MAX, ErrorKind::Other);
     let mut output = Vec::new(alloc);
     let result = demangle_bytes_formatted(alloc, &mut input, &mut output, format);
-    assert!(rt; result.is_ok(), "of {text}");
-    assert_eq!(rt; output.as_slice(), wanted, "of {text}");
+    assert!(result.is_ok(), "of {text}");
+    assert_eq!(output.as_slice(), wanted, "of {text}");
     Ok(())
 }
 
 /// Asserts that a call writes into memory what another call puts into a sink.
-fn assert_filters_alike(rt: &impl Abort, alloc: Global, text: &str) -> Result<(), Fail> {
+fn assert_filters_alike(alloc: Global, text: &str) -> Result<(), Fail> {
     for limit in [0, 5, 767, 768, 1_000_000] {
         for include_hash in [true, false] {
             for format in [
@@ -117,18 +121,18 @@ fn assert_filters_alike(rt: &impl Abort, alloc: Global, text: &str) -> Result<()
             ] {
                 let mut printed = Vec::new(alloc);
                 let mut sink = WriteSink::new(&mut printed);
-                assert!(rt; demangle_text_formatted(text, &mut sink, format).is_ok());
-                assert!(rt; sink.into_fault().is_none());
+                assert!(demangle_text_formatted(text, &mut sink, format).is_ok());
+                assert!(sink.into_fault().is_none());
                 let kept = printed.as_slice().get(..ROOM).unwrap_or(printed.as_slice());
                 let mut memory = [7; ROOM];
                 let len = demangle_slice_formatted(text.as_bytes(), &mut memory, format);
-                assert_eq!(rt; len, Some(printed.len()), "of {text} with {limit}");
-                assert_eq!(rt;
+                assert_eq!(len, Some(printed.len()), "of {text} with {limit}");
+                assert_eq!(
                     memory.get(..kept.len()),
                     Some(kept),
                     "of {text} with {limit}"
                 );
-                assert!(rt;
+                assert!(
                     memory.iter().skip(kept.len()).all(|byte| *byte == 7),
                     "after {text}"
                 );
@@ -139,7 +143,8 @@ fn assert_filters_alike(rt: &impl Abort, alloc: Global, text: &str) -> Result<()
 }
 
 #[test]
-fn runs_of_each_kind(rt: HostRuntime) -> Result<(), Fail> {
+fn runs_of_each_kind() -> Result<(), Fail> {
+    let rt = HostRuntime;
     for (run, plain, folded) in [
         ("_RNvC3foo3bar", "foo::bar", "foo::bar"),
         ("_RNvC3foo3bar.llvm.123", "foo::bar", "foo::bar"),
@@ -176,13 +181,16 @@ fn runs_of_each_kind(rt: HostRuntime) -> Result<(), Fail> {
         ("_R", "_R", "_R"),
     ] {
         assert_filters_to(
-            &rt,
-            run,
+            run.as_bytes(),
             Format::unfolded(true, 1_000_000),
             plain.as_bytes(),
         );
-        assert_filters_to(&rt, run, Format::folded(true, 1_000_000), folded.as_bytes());
-        assert_filters_alike(&rt, rt.alloc(), run)?;
+        assert_filters_to(
+            run.as_bytes(),
+            Format::folded(true, 1_000_000),
+            folded.as_bytes(),
+        );
+        assert_filters_alike(rt.alloc(), run)?;
     }
     Ok(())
 }
@@ -290,49 +298,46 @@ const LONG_RUNS: [(&str, &str, &str); 21] = [
 ];
 
 #[test]
-fn runs_that_may_be_printed_first(rt: HostRuntime) -> Result<(), Fail> {
+fn runs_that_may_be_printed_first() -> Result<(), Fail> {
+    let rt = HostRuntime;
     let alloc = rt.alloc();
     for (run, plain, folded) in LONG_RUNS {
         for (format, wanted) in [
             (Format::unfolded(true, 1_000_000), plain),
             (Format::folded(true, 1_000_000), folded),
         ] {
-            assert_filters_to(&rt, run, format, wanted.as_bytes());
-            assert_filter_writes(&rt, alloc, run, format, wanted.as_bytes())?;
+            assert_filters_to(run.as_bytes(), format, wanted.as_bytes());
+            assert_filter_writes(alloc, run, format, wanted.as_bytes())?;
         }
-        assert_filters_alike(&rt, alloc, run)?;
+        assert_filters_alike(alloc, run)?;
     }
     Ok(())
 }
 
 #[test]
-fn a_chain_of_references_takes_all_numbers_of_steps(rt: HostRuntime) -> Result<(), Fail> {
+fn a_chain_of_references_takes_all_numbers_of_steps() -> Result<(), Fail> {
+    let rt = HostRuntime;
     let alloc = rt.alloc();
     let format = Format::unfolded(true, 1_000_000);
     for count in 0..60usize {
         let symbol = chain(alloc, count, "E")?;
         let text = arguments(alloc, "a::b", "()", count.saturating_add(1))?;
-        assert_filters_to(&rt, symbol.as_str(), format, text.as_bytes());
-        assert_filter_writes(&rt, alloc, symbol.as_str(), format, text.as_bytes())?;
+        assert_filters_to(symbol.as_bytes(), format, text.as_bytes());
+        assert_filter_writes(alloc, symbol.as_str(), format, text.as_bytes())?;
         let damaged = chain(alloc, count, "")?;
-        assert_filters_to(&rt, damaged.as_str(), format, damaged.as_bytes());
-        assert_filter_writes(&rt, alloc, damaged.as_str(), format, damaged.as_bytes())?;
+        assert_filters_to(damaged.as_bytes(), format, damaged.as_bytes());
+        assert_filter_writes(alloc, damaged.as_str(), format, damaged.as_bytes())?;
     }
     for count in [0usize, 4, 8, 16, 32, 40, 44, 48, 59] {
-        assert_filters_alike(&rt, alloc, chain(alloc, count, "E")?.as_str())?;
-        assert_filters_alike(&rt, alloc, chain(alloc, count, "")?.as_str())?;
+        assert_filters_alike(alloc, chain(alloc, count, "E")?.as_str())?;
+        assert_filters_alike(alloc, chain(alloc, count, "")?.as_str())?;
     }
     Ok(())
 }
 
 /// Asserts that references to a name of this length print it, and that the same run without its end
 /// is not a symbol.
-fn assert_filters_names(
-    rt: &impl Abort,
-    alloc: Global,
-    len: usize,
-    count: usize,
-) -> Result<(), Fail> {
+fn assert_filters_names(alloc: Global, len: usize, count: usize) -> Result<(), Fail> {
     let format = Format::unfolded(false, 1_000_000);
     let mut name = String::new(alloc);
     for _ in 0..len {
@@ -340,11 +345,11 @@ fn assert_filters_names(
     }
     let text = arguments(alloc, "a", name.as_str(), count.saturating_add(1))?;
     let symbol = names(alloc, len, count, "E")?;
-    assert_filters_to(rt, symbol.as_str(), format, text.as_bytes());
-    assert_filter_writes(rt, alloc, symbol.as_str(), format, text.as_bytes())?;
+    assert_filters_to(symbol.as_bytes(), format, text.as_bytes());
+    assert_filter_writes(alloc, symbol.as_str(), format, text.as_bytes())?;
     let damaged = names(alloc, len, count, "")?;
-    assert_filters_to(rt, damaged.as_str(), format, damaged.as_bytes());
-    assert_filter_writes(rt, alloc, damaged.as_str(), format, damaged.as_bytes())
+    assert_filters_to(damaged.as_bytes(), format, damaged.as_bytes());
+    assert_filter_writes(alloc, damaged.as_str(), format, damaged.as_bytes())
 }
 
 /// Returns a tuple of a name of some length and three references to it, as the type of an impl.
@@ -361,7 +366,8 @@ fn tuple_of_names(alloc: Global, len: usize, end: &str) -> Result<String, AllocE
 }
 
 #[test]
-fn folded_texts_have_all_lengths_about_the_longest(rt: HostRuntime) -> Result<(), Fail> {
+fn folded_texts_have_all_lengths_about_the_longest() -> Result<(), Fail> {
+    let rt = HostRuntime;
     let alloc = rt.alloc();
     let format = Format::folded(false, 1_000_000);
     // A path with four names and 10 other bytes may have 1,600 bytes.
@@ -379,41 +385,44 @@ fn folded_texts_have_all_lengths_about_the_longest(rt: HostRuntime) -> Result<()
         text.push_str(name.as_str())?;
         text.push_str(")>")?;
         let symbol = tuple_of_names(alloc, len, "E")?;
-        assert_filters_to(&rt, symbol.as_str(), format, text.as_bytes());
-        assert_filter_writes(&rt, alloc, symbol.as_str(), format, text.as_bytes())?;
+        assert_filters_to(symbol.as_bytes(), format, text.as_bytes());
+        assert_filter_writes(alloc, symbol.as_str(), format, text.as_bytes())?;
         let damaged = tuple_of_names(alloc, len, "")?;
-        assert_filters_to(&rt, damaged.as_str(), format, damaged.as_bytes());
-        assert_filter_writes(&rt, alloc, damaged.as_str(), format, damaged.as_bytes())?;
+        assert_filters_to(damaged.as_bytes(), format, damaged.as_bytes());
+        assert_filter_writes(alloc, damaged.as_str(), format, damaged.as_bytes())?;
     }
     Ok(())
 }
 
 #[test]
-fn runs_have_all_lengths_about_the_longest(rt: HostRuntime) -> Result<(), Fail> {
+fn runs_have_all_lengths_about_the_longest() -> Result<(), Fail> {
+    let rt = HostRuntime;
     // A run with one name and 14 other bytes may have 384 bytes.
     for len in 364..376usize {
-        assert_filters_names(&rt, rt.alloc(), len, 1)?;
+        assert_filters_names(rt.alloc(), len, 1)?;
     }
     Ok(())
 }
 
 #[test]
-fn texts_have_all_lengths_about_four_times_the_run(rt: HostRuntime) -> Result<(), Fail> {
+fn texts_have_all_lengths_about_four_times_the_run() -> Result<(), Fail> {
+    let rt = HostRuntime;
     for count in 2..=9usize {
         for len in 10..40usize {
-            assert_filters_names(&rt, rt.alloc(), len, count)?;
+            assert_filters_names(rt.alloc(), len, count)?;
         }
     }
     Ok(())
 }
 
 #[test]
-fn a_run_that_was_printed_in_vain_leaves_no_text(rt: HostRuntime) -> Result<(), Fail> {
+fn a_run_that_was_printed_in_vain_leaves_no_text() -> Result<(), Fail> {
+    let rt = HostRuntime;
     let alloc = rt.alloc();
     let format = Format::unfolded(true, 1_000_000);
     // The text of such a run would be longer than the run.
     let damaged = names(alloc, 20, 8, "")?;
-    assert_filters_to(&rt, damaged.as_str(), format, damaged.as_bytes());
+    assert_filters_to(damaged.as_bytes(), format, damaged.as_bytes());
     let mut text = String::new(alloc);
     let mut wanted = String::new(alloc);
     for count in 0..40usize {
@@ -427,20 +436,21 @@ fn a_run_that_was_printed_in_vain_leaves_no_text(rt: HostRuntime) -> Result<(), 
         wanted.push_str(if count % 11 == 0 { run } else { "foo::bar" })?;
         wanted.push_str(" ")?;
     }
-    assert_filters_to(&rt, text.as_str(), format, wanted.as_bytes());
-    assert_filters_alike(&rt, alloc, text.as_str())
+    assert_filters_to(text.as_bytes(), format, wanted.as_bytes());
+    assert_filters_alike(alloc, text.as_str())
 }
 
 #[test]
-fn a_tuple_refers_to_itself(rt: HostRuntime) -> Result<(), Fail> {
+fn a_tuple_refers_to_itself() -> Result<(), Fail> {
+    let rt = HostRuntime;
     let alloc = rt.alloc();
     for zeros in [0usize, 3, 40, 150, 300, 359, 371, 380, 1000] {
         let symbol = self_reference(alloc, zeros)?;
         let mut memory = [7; ROOM];
         let format = Format::unfolded(true, 1_000_000);
         let len = demangle_slice_formatted(symbol.as_bytes(), &mut memory, format);
-        assert_eq!(rt; len, Some(1032), "with {zeros} zeros");
-        assert_filters_alike(&rt, alloc, symbol.as_str())?;
+        assert_eq!(len, Some(1032), "with {zeros} zeros");
+        assert_filters_alike(alloc, symbol.as_str())?;
     }
     Ok(())
 }

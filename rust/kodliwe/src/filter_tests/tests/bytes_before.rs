@@ -1,4 +1,4 @@
-// Made from crates/demangle_vectors/src/tests/bytes_before.rt by packaging/crate/erase.py: edit that file instead.
+// Made from crates/filter_tests/src/tests/bytes_before.rt by packaging/crate/erase.py: edit that file instead.
 //! Tests of the bytes before a run, which determine what its replacement takes the place of.
 use super::bytes::assert_filters;
 use super::texts::assert_fills;

@@ -1,4 +1,4 @@
-// Made from crates/demangle_vectors/src/tests/bytes.rt by packaging/crate/erase.py: edit that file instead.
+// Made from crates/filter_tests/src/tests/bytes.rt by packaging/crate/erase.py: edit that file instead.
 //! Tests of the output for any bytes: with chunks of all sizes, and with a reader or a writer that
 //! fails.
 use super::stream::{HEAD, LINE, ROWS, TAIL};

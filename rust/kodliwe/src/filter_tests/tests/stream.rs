@@ -1,4 +1,4 @@
-// Made from crates/demangle_vectors/src/tests/stream.rt by packaging/crate/erase.py: edit that file instead.
+// Made from crates/filter_tests/src/tests/stream.rt by packaging/crate/erase.py: edit that file instead.
 //! Tests of the stream's output for lines, and with a reader or a writer that fails.
 use crate::rustc_demangle::{StreamFault, demangle_bytes, demangle_stream, demangle_stream_named};
 use crate::support::alloc::Global;

@@ -1,4 +1,4 @@
-// Made from crates/demangle_vectors/src/tests/texts.rt by packaging/crate/erase.py: edit that file instead.
+// Made from crates/filter_tests/src/tests/texts.rt by packaging/crate/erase.py: edit that file instead.
 //! Tests of texts and bytes in memory, which are written to sinks and slices.
 use super::stream::{EACH_RUN, ROWS};
 use crate::rustc_demangle::sink::{ArraySink, TextSink};
