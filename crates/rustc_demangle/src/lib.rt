@@ -9,7 +9,6 @@ mod byte_before;
 mod coalescing;
 mod display;
 mod format;
-pub mod laws;
 mod runs;
 pub mod sink;
 mod slice;

@@ -1,0 +1,12 @@
+pub mod RewritingLaws
+pub mod LineFeedLaws
+pub mod LineFeeds
+pub mod FilterLaws
+pub mod ItemLineFeeds
+pub mod LineLaws
+pub mod SchemeLaws
+pub mod StripLaws
+pub mod TableLineFeeds
+pub mod V0LineFeeds
+pub mod WholeText
+pub mod PrimitiveLineFeeds

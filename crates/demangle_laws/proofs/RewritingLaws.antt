@@ -1,0 +1,334 @@
+-- The computed output of a text is the only text that its division into runs gives.
+use Rattle.std.proofs.Common.{◌≡◌, ℕ, zero, suc, ◌+◌, ◌-◌, ◌<◌, ◌⊎◌, inl, inr, ◌&&◌, ◌||◌, Bool, true, false, eqb, eqb-true, cond, List, [], ◌∷◌, ◌++◌, length, take, drop, get_or, refl, sym, ap, subst, ◌∙◌, arith, append_assoc, append-nil, length-append, length-drop, codes}
+use Rattle.std.proofs.Math.Seq.{drop-cons, drop-append_seam}
+use Rattle.std.proofs.lemmas.List.{take-append-drop, drop-append-le, drop_all}
+use Rattle.std.proofs.lemmas.Bool.{true≢false}
+use Rattle.std.specs.Char.{is_ascii_alphanumeric}
+use Rattle.std.specs.Prelude.{flat_map}
+use Rattle.std.specs.List.{prefix_len, take_while, list_all, concat}
+use Rattle.std.proofs.lemmas.List.Folds.{list_all-append}
+use Rattle.rustc_demangle.specs.Lines.{lines, line_feeds, AreLines}
+use Rattle.rustc_demangle.specs.ByteStream.{SplitsNoCandidate}
+use Rattle.rustc_demangle.specs.Filtered.{is_run_byte, starts_run, HasNoStart, StartsOutsideRun, IsRun, replacement}
+use Rattle.rustc_demangle.specs.Symbols.{unfolded, most_bytes}
+use Rattle.rustc_demangle.specs.Rewritten.{before_of, before_after, starts_candidate, replacement_after, rewritten_by, rewritten, EndsSingle, EndsAlphanumeric, EndsOutside, IsReplacementAfter, AreRewritten, IsRewritten}
+use Rattle.rustc_demangle.specs.declared.format.Format.{Format}
+use Rattle.rustc_demangle.specs.declared.byte_before.ByteBefore.{ByteBefore}
+use Rattle.rustc_demangle.specs.declared.byte_before.ByteBefore.TheVariants.{Outside, Alphanumeric, Mark}
+use Rattle.rustc_demangle.proofs.RunStarts.{begins_more, all_prefix, and_right}
+use Rattle.rustc_demangle.proofs.CandidateLemmas.{candidate_turn, or_false, before_after-append, last_before, first_of_candidate, rewritten_nothing, single_of, single_parts, candidate_of, run_candidate, rewritten_candidate, rewritten_split, rewritten_plain, rewritten_outside, HasNoCandidate, cuts_plain, plain_of}
+use Rattle.rustc_demangle.proofs.ByteStreamLemmas.{seam}
+use Rattle.rustc_demangle.proofs.SliceLemmas.{rewritten_all}
+use Rattle.rustc_demangle.proofs.LineDivision.{lines_join}
+use Rattle.demangle_laws.proofs.LineLaws.{only_lines}
+use Rattle.demangle_laws.proofs.LineFeeds.{line_feeds-append}
+use Rattle.demangle_laws.proofs.LineFeedLaws.{line_feeds-run, line_feeds-replacement}
+use Rattle.demangle_laws.proofs.FilterLaws.{cases, shorter, none_in_none, no_start_append, replaced, stands, run_at}
+
+-- What the last byte of a text is for the text after it.
+
+outside_is_not : Outside ≡ Alphanumeric → ⊥
+outside_is_not e = cc
+
+mark_is_not : Mark ≡ Alphanumeric → ⊥
+mark_is_not e = cc
+
+mark_not_outside : Mark ≡ Outside → ⊥
+mark_not_outside e = cc
+
+alphanumeric_not_outside : Alphanumeric ≡ Outside → ⊥
+alphanumeric_not_outside e = cc
+
+abbrev kind : Bool → Bool → ByteBefore
+kind true r = Alphanumeric
+kind false true = Mark
+kind false false = Outside
+
+before_kind : (c : ℕ) → before_of c ≡ kind (is_ascii_alphanumeric c) (is_run_byte c)
+before_kind c = at (is_ascii_alphanumeric c) (is_run_byte c)
+  where
+    at : (a r : Bool) → cond a Alphanumeric (cond r Mark Outside) ≡ kind a r
+    at true r = refl
+    at false true = refl
+    at false false = refl
+
+alphanumeric_of : (c : ℕ) → before_of c ≡ Alphanumeric → is_ascii_alphanumeric c ≡ true
+alphanumeric_of c e = at (is_ascii_alphanumeric c) (is_run_byte c) (sym (before_kind c) ∙ e)
+  where
+    at : (a r : Bool) → kind a r ≡ Alphanumeric → a ≡ true
+    at true r h = refl
+    at false true h = absurd (mark_is_not h)
+    at false false h = absurd (outside_is_not h)
+
+outside_of : (c : ℕ) → before_of c ≡ Outside → is_run_byte c ≡ false
+outside_of c e = at (is_ascii_alphanumeric c) (is_run_byte c) (sym (before_kind c) ∙ e)
+  where
+    at : (a r : Bool) → kind a r ≡ Outside → r ≡ false
+    at true r h = absurd (alphanumeric_not_outside h)
+    at false true h = absurd (mark_not_outside h)
+    at false false h = refl
+
+of_outside : (c : ℕ) → is_run_byte c ≡ false → before_of c ≡ Outside
+of_outside c other = before_kind c ∙ ap (λ r. kind (is_ascii_alphanumeric c) r) other ∙ ap (λ a. kind a false) (or_false ((eqb c 36 || eqb c 46) || eqb c 95) (is_ascii_alphanumeric c) other).1
+
+of_alphanumeric : (c : ℕ) → is_ascii_alphanumeric c ≡ true → before_of c ≡ Alphanumeric
+of_alphanumeric c is = before_kind c ∙ ap (λ a. kind a (is_run_byte c)) is
+
+-- a text by its last byte
+at_last : (s : List ℕ) → 0 < length s → s ≡ take (length s - 1) s ++ get_or s (length s - 1) 0 ∷ []
+at_last s some =
+    let n = length s - 1 in
+    let gone : drop (suc n) s ≡ [] = drop_all (suc n) s (omega (arith, some)) in
+    sym (take-append-drop n s) ∙ ap (λ l. take n s ++ l) (drop-cons s n 0 (omega (arith, some)) ∙ ap (λ l. get_or s n 0 ∷ l) gone)
+
+before_outside : (s : List ℕ) → EndsOutside s → before_after Outside s ≡ Outside
+before_outside s (inl e) = ap (before_after Outside) e
+before_outside s (inr (t, c, e, other)) = ap (before_after Outside) e ∙ before_after-append Outside t (c ∷ []) ∙ of_outside c other
+
+outside_before : (s : List ℕ) → before_after Outside s ≡ Outside → EndsOutside s
+outside_before [] e = inl refl
+outside_before (x ∷ s) e =
+    let some : 0 < length (x ∷ s) = omega arith in
+    inr (take (length (x ∷ s) - 1) (x ∷ s), get_or (x ∷ s) (length (x ∷ s) - 1) 0, at_last (x ∷ s) some, outside_of (get_or (x ∷ s) (length (x ∷ s) - 1) 0) (sym (last_before Outside (x ∷ s) some) ∙ e))
+
+before_alphanumeric : (s : List ℕ) → EndsAlphanumeric s → before_after Outside s ≡ Alphanumeric
+before_alphanumeric s (t, c, e, is) = ap (before_after Outside) e ∙ before_after-append Outside t (c ∷ []) ∙ of_alphanumeric c is
+
+alphanumeric_before : (s : List ℕ) → before_after Outside s ≡ Alphanumeric → EndsAlphanumeric s
+alphanumeric_before [] e = absurd (outside_is_not e)
+alphanumeric_before (x ∷ s) e =
+    let some : 0 < length (x ∷ s) = omega arith in
+    (take (length (x ∷ s) - 1) (x ∷ s), get_or (x ∷ s) (length (x ∷ s) - 1) 0, at_last (x ∷ s) some, alphanumeric_of (get_or (x ∷ s) (length (x ∷ s) - 1) 0) (sym (last_before Outside (x ∷ s) some) ∙ e))
+
+-- a text that ends with a `_` does not end with a letter or digit
+not_both : (s : List ℕ) → EndsSingle Outside s → before_after Outside s ≡ Alphanumeric → ⊥
+not_both s (t, e, out) is = mark_is_not (sym (ap (before_after Outside) e ∙ before_after-append Outside t (codes "_")) ∙ is)
+
+is_out : (b : ByteBefore) → (b ≡ Outside) ⊎ (b ≡ Outside → ⊥)
+is_out Outside = inl refl
+is_out Alphanumeric = inr alphanumeric_not_outside
+is_out Mark = inr mark_not_outside
+
+is_single : (s : List ℕ) → EndsSingle Outside s ⊎ (EndsSingle Outside s → ⊥)
+is_single [] = inr (λ w. omega (arith, (single_parts Outside [] w).0))
+is_single (x ∷ s) = at (eqb (get_or (x ∷ s) (length (x ∷ s) - 1) 0) 95) refl (is_out (before_after Outside (take (length (x ∷ s) - 1) (x ∷ s))))
+  where
+    at : (t : Bool) → eqb (get_or (x ∷ s) (length (x ∷ s) - 1) 0) 95 ≡ t → (before_after Outside (take (length (x ∷ s) - 1) (x ∷ s)) ≡ Outside) ⊎ (before_after Outside (take (length (x ∷ s) - 1) (x ∷ s)) ≡ Outside → ⊥)
+        → EndsSingle Outside (x ∷ s) ⊎ (EndsSingle Outside (x ∷ s) → ⊥)
+    at true e (inl out) = inl (single_of Outside (x ∷ s) (omega arith) (eqb-true _ 95 e) out)
+    at true e (inr not) = inr (λ w. not (single_parts Outside (x ∷ s) w).2)
+    at false e o = inr (λ w. true≢false (sym (ap (λ k. eqb k 95) (single_parts Outside (x ∷ s) w).1) ∙ e))
+
+-- One run, and the plain text before it.
+
+-- no run starts in plain text, if one starts after it
+none_before : (plain left : List ℕ) → HasNoStart plain → starts_run left ≡ true → (k : ℕ) → k < length plain → starts_run (drop k (plain ++ left)) ≡ false
+none_before plain left none some k lt = ap starts_run (drop-append-le k plain left (omega (arith, lt))) ∙ at (drop k plain) refl
+  where
+    size : (t : List ℕ) → drop k plain ≡ t → length t ≡ length plain - k
+    size t e = ap length (sym e) ∙ length-drop k plain
+
+    at : (t : List ℕ) → drop k plain ≡ t → starts_run (t ++ left) ≡ false
+    at [] e = absurd (omega (arith, lt, size [] e))
+    at (c ∷ t) e = no_start_append c t left (none (take k plain) (c ∷ t) (sym (take-append-drop k plain) ∙ ap (λ l. take k plain ++ l) e)) (inr some)
+
+-- plain text that stays, a candidate and the rest
+joined : (f : ByteBefore → List ℕ → List ℕ) (kept word rest : List ℕ) → HasNoCandidate Outside kept (word ++ rest) → starts_candidate (before_after Outside kept) word ≡ true → list_all is_run_byte word ≡ true → StartsOutsideRun rest
+    → rewritten_by f zero Outside (kept ++ (word ++ rest)) ≡ kept ++ (f (before_after Outside kept) word ++ rewritten_by f zero Outside rest)
+joined f kept word rest none some all stop =
+    let before = before_after Outside kept in
+    rewritten_split f Outside kept (word ++ rest) (cuts_plain Outside kept (word ++ rest) none)
+    ∙ ap (λ l. l ++ rewritten_by f zero before (word ++ rest)) (rewritten_plain f Outside kept (word ++ rest) none)
+    ∙ ap (λ l. kept ++ l) (rewritten_split f before word rest (λ p c e l a b. stop)
+    ∙ ap (λ l. l ++ rewritten_by f zero (before_after before word) rest) (rewritten_candidate f before word some all)
+    ∙ ap (λ l. f before word ++ l) (rewritten_outside f (before_after before word) Outside rest stop))
+
+run_begins : (run rest : List ℕ) → IsRun run rest → starts_run (run ++ rest) ≡ true
+run_begins run rest is = begins_more run rest is.begins
+
+-- after other text than a single `_`
+joined_run : (f : ByteBefore → List ℕ → List ℕ) (plain run rest : List ℕ) → HasNoStart plain → IsRun run rest → (EndsSingle Outside plain → ⊥)
+    → rewritten_by f zero Outside (plain ++ (run ++ rest)) ≡ plain ++ (f (before_after Outside plain) run ++ rewritten_by f zero Outside rest)
+joined_run f plain run rest none is not =
+    joined f plain run rest (plain_of Outside plain (run ++ rest) (none_before plain (run ++ rest) none (run_begins run rest is)) (λ w. absurd (not w)))
+    (run_candidate (before_after Outside plain) run is.begins) is.all is.longest
+
+-- after a single `_`
+joined_single : (f : ByteBefore → List ℕ → List ℕ) (kept run rest : List ℕ) → HasNoStart (kept ++ codes "_") → IsRun run rest → before_after Outside kept ≡ Outside
+    → rewritten_by f zero Outside ((kept ++ codes "_") ++ (run ++ rest)) ≡ kept ++ (f Outside (codes "_" ++ run) ++ rewritten_by f zero Outside rest)
+joined_single f kept run rest none is out =
+    let word : List ℕ = codes "_" ++ run in
+    let whole : (kept ++ codes "_") ++ (run ++ rest) ≡ kept ++ (word ++ rest) = append_assoc kept (codes "_") (run ++ rest) in
+    let longer : length (kept ++ codes "_") ≡ length kept + 1 = length-append kept (codes "_") in
+    let clear : (k : ℕ) → k < length (kept ++ codes "_") → starts_run (drop k (kept ++ (word ++ rest))) ≡ false =
+    λ k lt. ap (λ l. starts_run (drop k l)) (sym whole) ∙ none_before (kept ++ codes "_") (run ++ rest) none (run_begins run rest is) k lt in
+    let here : starts_run (word ++ rest) ≡ false = ap starts_run (sym (drop-append_seam kept (word ++ rest))) ∙ clear (length kept) (omega (arith, longer)) in
+    let some : starts_candidate (before_after Outside kept) word ≡ true = candidate_of (before_after Outside kept) word (inr (out, run, refl, is.begins)) in
+    ap (rewritten_by f zero Outside) whole
+    ∙ joined f kept word rest (plain_of Outside kept (word ++ rest) (λ k lt. clear k (omega (arith, lt, longer))) (λ w. here)) some is.all is.longest
+    ∙ ap (λ (b : ByteBefore). kept ++ (f b word ++ rewritten_by f zero Outside rest)) out
+
+-- The relation determines the text.
+
+abbrev format : Bool → Format
+format hash = unfolded hash most_bytes
+
+other_replaced : (hash : Bool) (before : ByteBefore) (run : List ℕ) → (before ≡ Alphanumeric → ⊥) → replacement_after (format hash) before run ≡ replacement hash run
+other_replaced hash Outside run not = refl
+other_replaced hash Alphanumeric run not = absurd (not refl)
+other_replaced hash Mark run not = refl
+
+pub plain_all : (hash : Bool) (text : List ℕ) → HasNoStart text → rewritten hash text ≡ text
+plain_all hash text none = rewritten_all (replacement_after (format hash)) text (λ k lt. none (take k text) (drop k text) (sym (take-append-drop k text)))
+
+-- one run, replaced
+one_only : (hash : Bool) (plain run rest kept text : List ℕ) → HasNoStart plain → IsRun run rest → IsReplacementAfter hash plain run kept text
+    → rewritten hash (plain ++ (run ++ rest)) ≡ kept ++ (text ++ rewritten hash rest)
+one_only hash plain run rest kept text none is (inl (ends, same, stays)) =
+    let f = replacement_after (format hash) in
+    let last : before_after Outside plain ≡ Alphanumeric = before_alphanumeric plain ends in
+    joined_run f plain run rest none is (λ w. not_both plain w last)
+    ∙ ap (λ (b : ByteBefore). plain ++ (f b run ++ rewritten hash rest)) last
+    ∙ ap (λ l. l ++ (run ++ rewritten hash rest)) (sym same) ∙ ap (λ l. kept ++ (l ++ rewritten hash rest)) (sym stays)
+one_only hash plain run rest kept text none is (inr (inl (whole, ends, by))) =
+    let f = replacement_after (format hash) in
+    ap (λ l. rewritten hash (l ++ (run ++ rest))) whole
+    ∙ joined_single f kept run rest (subst HasNoStart whole none) is (before_outside kept ends)
+    ∙ ap (λ l. kept ++ (l ++ rewritten hash rest)) (sym (stands hash (codes "_" ++ run) text by))
+one_only hash plain run rest kept text none is (inr (inr (not, single, same, by))) =
+    let f = replacement_after (format hash) in
+    joined_run f plain run rest none is (λ w. single w.0 w.1 (outside_before w.0 w.2))
+    ∙ ap (λ l. plain ++ (l ++ rewritten hash rest)) (other_replaced hash (before_after Outside plain) run (λ e. not (alphanumeric_before plain e)))
+    ∙ ap (λ l. l ++ (replacement hash run ++ rewritten hash rest)) (sym same) ∙ ap (λ l. kept ++ (l ++ rewritten hash rest)) (sym (stands hash run text by))
+
+only : (hash : Bool) (parts : List (List ℕ × List ℕ)) (text out : List ℕ) → AreRewritten hash parts text out → out ≡ rewritten hash text
+only hash [] text out (none, same) = same ∙ sym (plain_all hash text none)
+only hash ((plain, run) ∷ parts) text out (rest, kept, word, rest_out, whole, written, none, is, by, later) =
+    written ∙ ap (λ l. kept ++ (word ++ l)) (only hash parts rest rest_out later)
+    ∙ sym (one_only hash plain run rest kept word none is by) ∙ sym (ap (rewritten hash) whole)
+
+-- Each text has such a division.
+
+abbrev IsDivided : List (List ℕ × List ℕ) → List ℕ → Type 0
+IsDivided [] text = HasNoStart text
+IsDivided ((plain, run) ∷ parts) text = (rest : List ℕ) × (text ≡ plain ++ (run ++ rest)) × HasNoStart plain × IsRun run rest × IsDivided parts rest
+
+abbrev Divided : List ℕ → Type 0
+Divided text = (parts : List (List ℕ × List ℕ)) × IsDivided parts text
+
+more_plain : (c : ℕ) (plain left : List ℕ) → starts_run (c ∷ (plain ++ left)) ≡ false → HasNoStart plain → HasNoStart (c ∷ plain)
+more_plain c plain left none is [] rest e = ap starts_run (sym e) ∙ shorter (c ∷ plain) left none
+more_plain c plain left none is (b ∷ before) rest e = is before rest (ap (drop 1) e)
+
+divide_byte : (c : ℕ) (s : List ℕ) → starts_run (c ∷ s) ≡ false → Divided s → Divided (c ∷ s)
+divide_byte c s none ([], is) = ([], more_plain c s [] (ap (λ l. starts_run (c ∷ l)) (append-nil s) ∙ none) is)
+divide_byte c s none ((plain, run) ∷ parts, (rest, whole, plain_none, is, later)) =
+    ((c ∷ plain, run) ∷ parts, (rest, ap (λ l. c ∷ l) whole, more_plain c plain (run ++ rest) (ap (λ l. starts_run (c ∷ l)) (sym whole) ∙ none) plain_none, is, later))
+
+divide_run : (c : ℕ) (s : List ℕ) → starts_run (c ∷ s) ≡ true → Divided (drop (prefix_len is_run_byte s) s) → Divided (c ∷ s)
+divide_run c s some (parts, is) = (
+  ([], c ∷ take_while is_run_byte s) ∷ parts,
+  (drop (prefix_len is_run_byte s) s, ap (λ l. c ∷ l) (sym (take-append-drop (prefix_len is_run_byte s) s)), none_in_none, run_at c s some, is),
+)
+
+divide : (skip : ℕ) (s : List ℕ) → Divided (drop skip s)
+divide zero [] = ([], none_in_none)
+divide (suc skip) [] = ([], none_in_none)
+divide (suc skip) (c ∷ s) = divide skip s
+divide zero (c ∷ s) = elim (cases (starts_run (c ∷ s))) [
+  | inl some ↦ divide_run c s some (divide (prefix_len is_run_byte s) s)
+  | inr none ↦ divide_byte c s none (divide zero s)
+]
+
+-- the replacement of one run
+chosen : (hash : Bool) (plain run : List ℕ) → (kept : List ℕ) × (text : List ℕ) × IsReplacementAfter hash plain run kept text
+chosen hash plain run = at (is_single plain) (is_letter (before_after Outside plain))
+  where
+    is_letter : (b : ByteBefore) → (b ≡ Alphanumeric) ⊎ (b ≡ Alphanumeric → ⊥)
+    is_letter Outside = inr outside_is_not
+    is_letter Alphanumeric = inl refl
+    is_letter Mark = inr mark_is_not
+
+    at : EndsSingle Outside plain ⊎ (EndsSingle Outside plain → ⊥) → (before_after Outside plain ≡ Alphanumeric) ⊎ (before_after Outside plain ≡ Alphanumeric → ⊥)
+        → (kept : List ℕ) × (text : List ℕ) × IsReplacementAfter hash plain run kept text
+    at (inl (s, e, out)) l = (s, replacement hash (codes "_" ++ run), inr (inl (e, outside_before s out, replaced hash (codes "_" ++ run))))
+    at (inr not) (inl is) = (plain, run, inl (alphanumeric_before plain is, refl, refl))
+    at (inr not) (inr other) =
+        (plain, replacement hash run, inr (inr (λ w. other (before_alphanumeric plain w), λ s e w. not (s, e, before_outside s w), refl, replaced hash run)))
+
+built : (hash : Bool) (parts : List (List ℕ × List ℕ)) (text : List ℕ) → IsDivided parts text → AreRewritten hash parts text (rewritten hash text)
+built hash [] text none = (none, plain_all hash text none)
+built hash ((plain, run) ∷ parts) text (rest, whole, none, is, later) =
+    let w = chosen hash plain run in
+    (rest, w.0, w.1, rewritten hash rest, whole, ap (rewritten hash) whole ∙ one_only hash plain run rest w.0 w.1 none is w.2, none, is, w.2, built hash parts rest later)
+
+-- the computed text is that of the division, and no other text is
+pub rewritten_is : (hash : Bool) (text out : List ℕ) → ((out ≡ rewritten hash text) → IsRewritten hash text out) × (IsRewritten hash text out → out ≡ rewritten hash text)
+rewritten_is hash text out = (
+  λ e. let d = divide zero text in (d.0, subst (AreRewritten hash d.0 text) (sym e) (built hash d.0 text d.1)),
+  λ w. only hash w.0 text out w.1,
+)
+
+-- Rewriting in parts.
+
+-- text that ends with a byte that is not of a run splits no candidate
+ended : (prefix rest : List ℕ) (c : ℕ) → is_run_byte c ≡ false → SplitsNoCandidate Outside (prefix ++ c ∷ []) rest
+ended prefix rest c other = λ plain word e some all begins. absurd (elim (seam prefix (c ∷ []) plain word e) [
+  | inl p ↦ true≢false (sym (and_right (list_all is_run_byte p.0) (is_run_byte c && true) (sym (list_all-append is_run_byte p.0 (c ∷ [])) ∙ ap (list_all is_run_byte) (sym p.2) ∙ all)) ∙ ap (λ b. b && true) other)
+  | inr p ↦ first p.0 word some all p.1
+])
+  where
+    first : (y word : List ℕ) → 0 < length word → list_all is_run_byte word ≡ true → c ∷ [] ≡ y ++ word → ⊥
+    first [] word some all e = true≢false (sym all ∙ ap (list_all is_run_byte) (sym e) ∙ ap (λ b. b && true) other)
+    first (d ∷ y) word some all e = omega (arith, ap length e, length-append y word, some)
+
+pub divided_anew : (f : ByteBefore → List ℕ → List ℕ) (prefix rest : List ℕ) (c : ℕ) → is_run_byte c ≡ false
+    → rewritten_by f zero Outside (prefix ++ c ∷ rest) ≡ rewritten_by f zero Outside (prefix ++ c ∷ []) ++ rewritten_by f zero Outside rest
+divided_anew f prefix rest c other =
+    ap (rewritten_by f zero Outside) (sym (append_assoc prefix (c ∷ []) rest))
+    ∙ rewritten_split f Outside (prefix ++ c ∷ []) rest (ended prefix rest c other)
+    ∙ ap (λ (b : ByteBefore). rewritten_by f zero Outside (prefix ++ c ∷ []) ++ rewritten_by f zero b rest) (before_after-append Outside prefix (c ∷ []) ∙ of_outside c other)
+
+-- rewritten bytes are their lines, each rewritten
+pub rewritten_lines : (hash : Bool) (text : List ℕ) → rewritten hash text ≡ flat_map (rewritten hash) (lines text)
+rewritten_lines hash text = ap (rewritten hash) (sym (lines_join text)) ∙ each (lines text) (only_lines text).are
+  where
+    f : ByteBefore → List ℕ → List ℕ
+    f = replacement_after (format hash)
+
+    each : (parts : List (List ℕ)) → AreLines parts → rewritten hash (concat parts) ≡ flat_map (rewritten hash) parts
+    each [] are = rewritten_nothing f Outside zero
+    each (line ∷ []) are = ap (rewritten hash) (append-nil line) ∙ sym (append-nil (rewritten hash line))
+    each (line ∷ next ∷ rest) are =
+        let end = are.0 in
+        ap (λ l. rewritten hash (l ++ concat (next ∷ rest))) end.1
+        ∙ ap (rewritten hash) (append_assoc end.0 (10 ∷ []) (concat (next ∷ rest)))
+        ∙ divided_anew f end.0 (concat (next ∷ rest)) 10 refl
+        ∙ ap (λ l. rewritten hash l ++ rewritten hash (concat (next ∷ rest))) (sym end.1)
+        ∙ ap (λ l. rewritten hash line ++ l) (each (next ∷ rest) are.1)
+
+-- they have as many line feeds as before
+line_feeds-after : (hash : Bool) (before : ByteBefore) (run : List ℕ) → line_feeds run ≡ 0 → line_feeds (replacement_after (format hash) before run) ≡ 0
+line_feeds-after hash Outside run none = line_feeds-replacement hash run none
+line_feeds-after hash Alphanumeric run none = none
+line_feeds-after hash Mark run none = line_feeds-replacement hash run none
+
+line_feeds-from : (hash : Bool) (skip : ℕ) (before : ByteBefore) (s : List ℕ) → line_feeds (rewritten_by (replacement_after (format hash)) skip before s) ≡ line_feeds (drop skip s)
+unfolding rewritten_by
+line_feeds-from hash zero before [] = refl
+line_feeds-from hash (suc skip) before [] = refl
+line_feeds-from hash (suc skip) before (c ∷ s) = line_feeds-from hash skip (before_of c) s
+line_feeds-from hash zero before (c ∷ s) = elim (cases (starts_candidate before (c ∷ s))) [
+  | inl some ↦
+      let f = replacement_after (format hash) in
+      let run = c ∷ take_while is_run_byte s in
+      let n = prefix_len is_run_byte s in
+      let clean : line_feeds run ≡ 0 = line_feeds-run run (ap (λ b. b && list_all is_run_byte (take_while is_run_byte s)) (ap is_run_byte (first_of_candidate before (c ∷ s) some)) ∙ all_prefix s) in
+      let whole : line_feeds (c ∷ s) ≡ line_feeds run + line_feeds (drop n s) = ap (λ l. line_feeds (c ∷ l)) (sym (take-append-drop n s)) ∙ line_feeds-append run (drop n s) in
+      ap (λ b. line_feeds (candidate_turn f before c s b)) some ∙ line_feeds-append (f before run) (rewritten_by f n (before_of c) s)
+      ∙ omega (arith, whole, clean, line_feeds-after hash before run clean, line_feeds-from hash n (before_of c) s)
+  | inr none ↦ ap (λ b. line_feeds (candidate_turn (replacement_after (format hash)) before c s b)) none ∙ omega (arith, line_feeds-from hash zero (before_of c) s)
+]
+
+pub line_feeds-rewritten : (hash : Bool) (text : List ℕ) → line_feeds (rewritten hash text) ≡ line_feeds text
+line_feeds-rewritten hash text = line_feeds-from hash zero Outside text

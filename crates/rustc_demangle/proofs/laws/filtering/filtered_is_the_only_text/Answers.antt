@@ -1,5 +1,0 @@
-use Rattle.rustc_demangle.proofs.FilterLaws.{filtered_is}
-use Rattle.rustc_demangle.proofs.laws.filtering.filtered_is_the_only_text.Goals as goal
-
-pub returns : goal.returns
-returns c hash line out = filtered_is hash line out

@@ -1,9 +1,0 @@
-use Rattle.rustc_demangle.proofs.FilterLaws.{passes}
-use Rattle.rustc_demangle.proofs.RewritingLaws.{plain_all}
-use Rattle.rustc_demangle.proofs.laws.filtering.line_without_symbols_passes.Goals as goal
-
-pub returns-clause-filtered : goal.returns-clause-filtered
-returns-clause-filtered c = passes
-
-pub returns-clause-rewritten : goal.returns-clause-rewritten
-returns-clause-rewritten c = plain_all

@@ -1,5 +1,0 @@
-use Rattle.rustc_demangle.proofs.PrintingLaws.{hash-last}
-use Rattle.rustc_demangle.proofs.laws.printing.hash_is_the_last_element.Goals as goal
-
-pub returns : goal.returns
-returns c = hash-last

@@ -1,9 +1,0 @@
-use Rattle.rustc_demangle.specs.Symbols.{unfolded}
-use Rattle.rustc_demangle.proofs.PrintingLaws.{handed-no_symbol, kept-no_symbol}
-use Rattle.rustc_demangle.proofs.laws.printing.no_symbol_prints_itself.Goals as goal
-
-pub returns : goal.returns
-returns c = record {
-  handed = λ text none hash limit. handed-no_symbol text none (unfolded hash limit);
-  kept = λ text none hash limit. kept-no_symbol text none (unfolded hash limit);
-}

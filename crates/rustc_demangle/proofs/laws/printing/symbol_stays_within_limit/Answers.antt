@@ -1,6 +1,0 @@
-use Rattle.rustc_demangle.specs.Symbols.{unfolded}
-use Rattle.rustc_demangle.proofs.PrintingLaws.{size-handed}
-use Rattle.rustc_demangle.proofs.laws.printing.symbol_stays_within_limit.Goals as goal
-
-pub returns : goal.returns
-returns c = λ text hash limit. size-handed text (unfolded hash limit)
