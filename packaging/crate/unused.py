@@ -22,8 +22,10 @@ def least(features):
 class Named:
     """A named item of a module, and what it needs."""
 
-    def __init__(self, module, item, is_free):
+    def __init__(self, module, item, is_free, owner=""):
         self.module, self.item, self.name = module, item, item.name
+        # The type whose `impl` it is a member of, if it is one.
+        self.owner = owner
         self.needs = ""
         self.is_dead = False
         # Whether it is no member of an `impl`, and whether only its module and those below know it.
@@ -43,6 +45,10 @@ class Use:
     def is_dead(self):
         return any(item.is_dead for item in self.within)
 
+    def is_in(self, owner):
+        """Returns whether it is `Self` in an `impl` of this type."""
+        return self.path[-1:] == ("Self",) and any(item.name == owner for item in self.within)
+
     def needs(self):
         return most(self.module.feature, *(item.needs for item in self.within))
 
@@ -55,6 +61,8 @@ class Usage:
 
     def __init__(self, modules, others):
         self.items, self.uses = [], {}
+        # What a hand-written module passes on. Its members are for callers.
+        self.passed_on = set()
         # The free items by their modules' paths and their names.
         self.placed = {}
         self.trees = {module: tree_of(module.tokens) for module in modules}
@@ -66,9 +74,10 @@ class Usage:
             self.add_all(module, module.tokens, ())
             for _, visibility, leaves in module.uses:
                 for leaf in leaves if visibility or module.is_above else []:
+                    self.passed_on.add(leaf[-1].split(" as ")[0])
                     self.uses.setdefault(leaf[-1].split(" as ")[0], []).append(Use(module, ()))
 
-    def read(self, module, items, within, is_free, parent="file"):
+    def read(self, module, items, within, is_free, parent="file", owner=""):
         at = 0
         for item in items_of(items):
             self.add_all(module, items[at : item.start], within)
@@ -76,7 +85,7 @@ class Usage:
             inner = within
             if is_free and item.word in NAMED and item.name and item.name != "_" and not is_test(item):
                 named = self.types.get(item.name) if item.word in ("struct", "enum") else None
-                named = named or Named(module, item, parent != "impl")
+                named = named or Named(module, item, parent != "impl", owner)
                 self.items.append(named)
                 if parent == "file":
                     self.placed[(*module.root(), item.name)] = named
@@ -86,7 +95,7 @@ class Usage:
                 inner = (*inner, about) if about else inner
                 self.read_head(module, item, inner)
                 own = item.word == "mod" or item.word == "impl" and not any(i.is_name("for") for i in item.head())
-                self.read(module, item.body().items, inner, own, item.word)
+                self.read(module, item.body().items, inner, own, item.word, impl_of(item) if item.word == "impl" else "")
             else:
                 self.add_all(module, item.parts(), inner)
         self.add_all(module, items[at:], within)
@@ -101,10 +110,21 @@ class Usage:
 
     def add_all(self, module, items, within):
         previous, path = "", ()
+        # Paths with generic arguments, and how many `<` of them are open.
+        outer = []
         for token in flat(items):
             if token.is_blank():
                 continue
-            if token.text != "::" and previous != "::":
+            if token.text == "<" and previous == "::":
+                outer.append((path, 1))
+                path = ()
+            elif token.text in ("<", ">") and outer:
+                before, depth = outer.pop()
+                depth += 1 if token.text == "<" else -1
+                if depth:
+                    outer.append((before, depth))
+                path = () if depth else before
+            elif token.text != "::" and previous != "::":
                 path = ()
             if previous != "fn":  # A function of the same name is no use.
                 self.add(module, token, within, previous == ".", path)
@@ -125,6 +145,9 @@ class Usage:
             uses = [use for use in uses if not use.is_member]
             # A path to an item names no other.
             uses = [use for use in uses if self.placed.get((*use.path, named.name), named) is named]
+        elif named.owner and named.owner not in self.passed_on:
+            # A member that a path names is of the type in the path.
+            uses = [use for use in uses if not use.path or use.path[-1] == named.owner or use.is_in(named.owner)]
         if named.is_private:
             own = named.module.path
             uses = [use for use in uses if use.module in self.trees and use.module.path[: len(own)] == own]

@@ -16,6 +16,7 @@ pub struct SizeLimitedFmtAdapter<'s, S: TextSink> {
 
 impl<'s, S: TextSink> SizeLimitedFmtAdapter<'s, S> {
     /// Returns an adapter that passes at most `limit` bytes to `out`.
+    #[cfg(feature = "stream")]
     pub fn new(out: &'s mut S, limit: usize) -> Self {
         SizeLimitedFmtAdapter::with_references(out, limit, None)
     }
