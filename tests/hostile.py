@@ -30,8 +30,9 @@ BytesFilter remembers equal runs, so it also reads runs that end with different 
 if enough symbols came between, so it also reads texts with as many cheap symbols between.
 
 These runs are those of hostile_texts.VAIN, real symbols that are cut off, and what a search finds (tests/hostile_search.py). A run that
-is a symbol for the published crate is left out, such as a real symbol that is cut off within its suffix. The seed of the search and the
-number of its generations are fixed, so it finds the same each time. --seed and --minutes make another one, of 5 minutes by default.
+is a symbol for the published crate is left out, such as a real symbol that is cut off within its suffix. But the calls of BytesFilter
+also read a symbol whose print gives up. The seed of the search and the number of its generations are fixed, so it finds the same each
+time. --seed and --minutes make another one, of 5 minutes by default.
 
 --rust names another crate than that of this checkout. --programs, or PROGRAMS in the environment, names some builds of the program,
 or other files: --programs proved,cargo=PATH. --archives names those of the archive in the same way. `make` builds the proved ones.
@@ -413,7 +414,10 @@ def too_dear(costs):
 
 
 def vain_families(call, *archive):
-    costs, most_of = Vain(call, *archive).costs(vain_runs()), {}
+    runs = dict(vain_runs())
+    if call.startswith("BytesFilter"):
+        runs["a symbol whose print gives up"] = [hostile_texts.GIVES_UP]
+    costs, most_of = Vain(call, *archive).costs(runs), {}
     for _, kind, cost, _ in costs:
         most_of[kind] = max(cost, most_of.get(kind, 0))
     told = "at most " + ", ".join("%s %.2f" % row for row in most_of.items())

@@ -174,6 +174,8 @@ VAIN = {
     "lifetimes and references to them": "_RIC0FGZ_" + "RL0_u" * 18 + "B0_" * 95,
     "arguments that are read from within a name": "_RYC5INvC5B2_001aCu9t0a0a0a0a" + "Be_" * 245,
 }
+# A symbol whose path contains itself, so that its print gives up and is in vain too. The search found it.
+GIVES_UP = "_RYB_Cu9bcher_kva." + "l" * 300
 
 
 def real_symbols():

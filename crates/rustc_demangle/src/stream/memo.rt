@@ -210,9 +210,7 @@ impl Store {
             Tried::Read(symbol) => symbol,
             Tried::Unknown => Demangle::read_run_counted(run, looks),
         };
-        if !symbol.has_style() {
-            self.credit.lose(run);
-        }
+        self.credit.lose(run);
         Some(symbol)
     }
 

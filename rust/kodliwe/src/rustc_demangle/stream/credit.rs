@@ -13,9 +13,9 @@ pub(super) fn starts_as_v0(run: &[u8]) -> bool {
     (run.len() > 2) && ((run[1] == b'R') | ((run[1] == b'_') & (run[2] == b'R')))
 }
 
-/// Whether the runs of a text are printed first. After a v0 run that was printed and is no symbol,
-/// they are not, until enough symbols were read. So a text of such runs takes little longer than
-/// validating all runs first.
+/// Whether the runs of a text are printed first. After a v0 run that was printed in vain, they are
+/// not, until enough symbols were read. So a text of such runs takes little longer than validating
+/// all runs first. A run is printed in vain if it is no symbol, or if the print gave up.
 #[derive(Clone, Copy)]
 pub(super) struct Credit {
     /// The number of symbols that have to be read before a run is printed first again.
@@ -35,8 +35,8 @@ impl Credit {
         self.owed == 0
     }
 
-    /// Takes account of a run that was printed and is not a symbol. Only v0 runs count, because few
-    /// bytes of others are printed before it is known.
+    /// Takes account of a run that was printed in vain. Only v0 runs count, because few bytes of
+    /// others are printed before it is known.
     #[cfg_attr(not(debug_assertions), inline(always))]
     pub(super) fn lose(&mut self, run: &str) {
         if starts_as_v0(run.as_bytes()) {

@@ -158,9 +158,7 @@ impl Store {
             Tried::Read(symbol) => symbol,
             Tried::Unknown => Demangle::read_run(run),
         };
-        if !symbol.has_style() {
-            self.credit.lose(run);
-        }
+        self.credit.lose(run);
         Some(symbol)
     }
 
