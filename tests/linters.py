@@ -127,7 +127,7 @@ def check_figures():
 
 # How many new counts of looks each function makes. Work on a new count is in no bound.
 NEW_COUNTS = {
-    "demangle_v0/src/parser/machine.rt": {"at_path": 1, "in_larger_stack": 1},
+    "demangle_v0/src/parser/parse.rt": {"at_path": 1, "in_larger_stack": 1},
     "demangle_v0/src/printer.rt": {"print_validated": 1},
     "rustc_demangle/src/lib.rt": {"demangle": 1},
     "rustc_demangle/src/stream/memo.rt": {"write_new": 2, "write_run": 1},

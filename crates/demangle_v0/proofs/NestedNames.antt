@@ -22,7 +22,7 @@ use Rattle.demangle_v0.specs.declared.parser.State.{State}
 use Rattle.demangle_v0.specs.declared.parser.StepError.{StepError}
 use Rattle.demangle_v0.specs.declared.parser.StepError.TheVariants.{Abort, Sink}
 use Rattle.demangle_v0.specs.declared.parser.frames.Frame.{Frame}
-use Rattle.demangle_v0.specs.declared.parser.machine.Parser.{Parser}
+use Rattle.demangle_v0.specs.declared.parser.parse.Parser.{Parser}
 use Rattle.demangle_v0_tokens.specs.declared.output.Output.{Ghosts}
 use Rattle.std.proofs.lemmas.List.{append-nil}
 use Rattle.demangle_v0.proofs.LoopLemmas.{step_continues}

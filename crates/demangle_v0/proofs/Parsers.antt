@@ -14,7 +14,7 @@ use Rattle.demangle_v0.specs.declared.parser.State.{State}
 use Rattle.demangle_v0.specs.declared.parser.StepError.{StepError}
 use Rattle.demangle_v0.specs.declared.parser.StepError.TheVariants.{Sink, Abort}
 use Rattle.demangle_v0.specs.declared.parser.frames.Frame.{Frame}
-use Rattle.demangle_v0.specs.declared.parser.machine.Parser.{Parser}
+use Rattle.demangle_v0.specs.declared.parser.parse.Parser.{Parser}
 use Rattle.demangle_v0.specs.declared.parser.steps.Unfinished.{Unfinished}
 
 -- A continuation that emits nothing has the same effect for every output.

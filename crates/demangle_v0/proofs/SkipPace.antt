@@ -18,7 +18,7 @@ use Rattle.demangle_v0.specs.declared.parser.Continuation.{Continuation}
 use Rattle.demangle_v0.specs.declared.parser.Continuation.TheVariants as continuation
 use Rattle.demangle_v0.specs.declared.parser.State.{State}
 use Rattle.demangle_v0.specs.declared.parser.frames.Frame.{Frame}
-use Rattle.demangle_v0.specs.declared.parser.machine.Parser.{Parser}
+use Rattle.demangle_v0.specs.declared.parser.parse.Parser.{Parser}
 use Rattle.demangle_v0.specs.declared.parser.steps.Unfinished.{Unfinished}
 use Rattle.demangle_v0.proofs.LoopLemmas.{ran_looks}
 use Rattle.demangle_v0.proofs.SkipSteps.{own_is, read_own}

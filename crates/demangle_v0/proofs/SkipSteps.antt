@@ -16,7 +16,7 @@ use Rattle.demangle_v0.specs.Steps.{Machine}
 use Rattle.demangle_v0.specs.Traces.{allows_looks, with_actions, trace_at, trace_of_state, trace_of_stack, remaining_trace, with_closed_bracket}
 use Rattle.demangle_v0.specs.Loops.{ResumesAt, Valid, frame_height, Reads, ReadDone, no_output_env, no_output_machine, Skipped, StopsInPart, ReadsPart, ValidUnfinished, part_state, part_checkpoint, part_trace, state_at, first_looks}
 use Rattle.demangle_v0.specs.Parsers.{FinishesSkip, IsValid, UnfinishedIsValid, SkipsFull, SkipsOver, checked_at, checkpoint_of}
-use Rattle.demangle_v0.specs.declared.parser.machine.Parser.{Parser}
+use Rattle.demangle_v0.specs.declared.parser.parse.Parser.{Parser}
 use Rattle.demangle_v0_tokens.specs.declared.output.NoOutput.{NoOutput}
 use Rattle.demangle_v0.specs.declared.parser.Continuation.{Continuation}
 use Rattle.demangle_v0.specs.declared.parser.Continuation.TheVariants as continuation

@@ -9,7 +9,7 @@ use Rattle.demangle_v0.specs.Steps.{Env, Machine, resumed_of}
 use Rattle.demangle_v0.specs.StepRuns.{full_measure, raised, bare, Runs, StepsDone}
 use Rattle.demangle_v0.specs.Parsers.{Same, env_of}
 use Rattle.demangle_v0.specs.Traces.{pushed_on}
-use Rattle.demangle_v0.specs.declared.parser.machine.Parser.{Parser}
+use Rattle.demangle_v0.specs.declared.parser.parse.Parser.{Parser}
 use Rattle.demangle_v0_tokens.specs.declared.output.Output.{Ghosts}
 use Rattle.demangle_v0.specs.declared.parser.Continuation.{Continuation}
 use Rattle.demangle_v0.specs.declared.parser.Continuation.TheVariants as continuation

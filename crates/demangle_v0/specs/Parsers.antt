@@ -26,7 +26,7 @@ use Rattle.demangle_v0.specs.declared.parser.StepError.{StepError}
 use Rattle.demangle_v0.specs.Frames.{on_top}
 use Rattle.demangle_v0.specs.declared.parser.frames.Frame.{Frame}
 use Rattle.demangle_v0.specs.declared.fuel.Fuel.{Fuel}
-use Rattle.demangle_v0.specs.declared.parser.machine.Parser.{Parser}
+use Rattle.demangle_v0.specs.declared.parser.parse.Parser.{Parser}
 use Rattle.demangle_v0.specs.declared.parser.steps.ReadOutcome.{ReadOutcome}
 use Rattle.demangle_v0.specs.declared.parser.steps.Checkpoint.{Checkpoint}
 use Rattle.demangle_v0.specs.declared.parser.steps.Unfinished.{Unfinished}

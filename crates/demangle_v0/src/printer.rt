@@ -6,7 +6,7 @@ ghost use Rattle.demangle_v0.specs.Parsers.{EndsPrinting, IsValid, UnfinishedIsV
 use crate::fuel::Fuel;
 use crate::parser::Continuation;
 use crate::parser::frames::{FULL_STACK, MIDDLE_STACK, UNUSED_FRAME};
-use crate::parser::machine::Parser;
+use crate::parser::parse::Parser;
 use crate::parser::skip::is_skipped;
 use crate::parser::steps::Unfinished;
 use demangle_sink::{SinkRefused, SizeLimitedFmtAdapter, TextSink};

@@ -13,7 +13,7 @@ ghost use Rattle.demangle_v0.specs.Attempts.{PrintsIfPrinted, SuffixOf};
 use crate::fuel::Fuel;
 use crate::parser::Continuation;
 use crate::parser::frames::{FULL_STACK, MIDDLE_STACK, SHORT_STACK, UNUSED_FRAME};
-use crate::parser::machine::Parser;
+use crate::parser::parse::Parser;
 use crate::parser::steps::{ReadOutcome, Unfinished};
 use demangle_sink::{SizeLimitedFmtAdapter, TextSink};
 use demangle_symbol::cursor::{Looks, Symbol};

@@ -7,7 +7,7 @@ ghost use Rattle.demangle_v0_grammar.specs.References.{path_texts_before};
 ghost use Rattle.demangle_v0.specs.Attempts.{PrintsPath};
 
 use crate::parser::frames::{SHORT_STACK, UNUSED_FRAME};
-use crate::parser::machine::Parser;
+use crate::parser::parse::Parser;
 use demangle_sink::{SinkRefused, SizeLimitedFmtAdapter, TextSink};
 use demangle_symbol::cursor::{Looks, Symbol};
 use demangle_symbol::form::Form;

@@ -9,7 +9,7 @@ ghost use Rattle.demangle_v0.specs.Steps.{looks_bound};
 
 use crate::parser::Continuation;
 use crate::parser::lists::separator;
-use crate::parser::machine::Parser;
+use crate::parser::parse::Parser;
 use demangle_v0_tokens::fixed_texts::FixedText;
 
 impl Parser<'_, '_> {

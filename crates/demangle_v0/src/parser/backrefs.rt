@@ -5,7 +5,7 @@ ghost use Rattle.std.specs.Prelude.{◌≡◌, ◌+◌, ◌≤◌, ◌<◌, leng
 ghost use Rattle.demangle_v0.specs.Parsers.{Followed, CanAdvance, Advanced, Paced};
 
 use crate::parser::frames::Frame;
-use crate::parser::machine::Parser;
+use crate::parser::parse::Parser;
 use crate::parser::{Continuation, StepError};
 use demangle_v0_tokens::backref::{BackrefOutcome, read_backref};
 use demangle_v0_tokens::output::Output;

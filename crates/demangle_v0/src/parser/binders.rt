@@ -4,7 +4,7 @@ ghost use Rattle.demangle_v0_grammar.specs.Binders.{binder_texts};
 ghost use Rattle.demangle_v0.specs.Parsers.{CanPrint, binding};
 ghost use Rattle.demangle_v0.specs.Measure.{most_lifetimes};
 
-use crate::parser::machine::Parser;
+use crate::parser::parse::Parser;
 use demangle_sink::SinkRefused;
 use demangle_v0_tokens::output::Output;
 use demangle_v0_tokens::token::Token;

@@ -6,7 +6,7 @@ ghost use Rattle.demangle_v0.specs.Productions.{at_first, after_first, after_nex
 ghost use Rattle.demangle_v0.specs.Parsers.{CanAdvance, Advanced, Paced};
 
 use crate::parser::Continuation;
-use crate::parser::machine::Parser;
+use crate::parser::parse::Parser;
 use demangle_v0_tokens::fixed_texts::FixedText;
 
 /// A kind of list whose elements are constants.

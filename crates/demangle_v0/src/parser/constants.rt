@@ -8,7 +8,7 @@ ghost use Rattle.demangle_v0.specs.Productions.{shared_constant, variant_constan
 ghost use Rattle.demangle_v0.specs.Steps.{looks_bound};
 ghost use Rattle.demangle_v0_tokens.specs.Tags.{constant_of};
 
-use crate::parser::machine::Parser;
+use crate::parser::parse::Parser;
 use crate::parser::{Continuation, StepError};
 use demangle_v0_tokens::fixed_texts::FixedText;
 use demangle_v0_tokens::output::Output;

@@ -7,8 +7,8 @@ ghost use Rattle.demangle_v0.specs.Parsers.{PerformedAs, CanPerform, Paced};
 ghost use Rattle.demangle_v0.specs.Loops.{first_looks};
 
 use crate::parser::constant_lists::ConstantList;
-use crate::parser::machine::Parser;
 use crate::parser::out_of_line::OutOfLine;
+use crate::parser::parse::Parser;
 use crate::parser::types::may_have_splat;
 use crate::parser::{Continuation, StepError};
 use demangle_v0_tokens::output::Output;

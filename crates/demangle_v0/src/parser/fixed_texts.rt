@@ -7,7 +7,7 @@ ghost use Rattle.demangle_v0.specs.Parsers.{Advanced, Paced};
 ghost use Rattle.demangle_v0.specs.Measure.{Fits};
 
 use crate::parser::Continuation;
-use crate::parser::machine::Parser;
+use crate::parser::parse::Parser;
 use demangle_v0_tokens::fixed_texts::FixedText;
 
 /// A fixed text to queue, and what follows it.

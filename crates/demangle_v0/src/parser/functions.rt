@@ -10,7 +10,7 @@ ghost use Rattle.demangle_v0.specs.Parsers.{Performed, PerformedRest, CanPerform
 ghost use Rattle.demangle_v0.specs.Steps.{looks_bound};
 
 use crate::parser::lists::separator;
-use crate::parser::machine::Parser;
+use crate::parser::parse::Parser;
 use crate::parser::{Continuation, StepError};
 use demangle_v0_tokens::fixed_texts::FixedText;
 use demangle_v0_tokens::output::Output;

@@ -5,7 +5,7 @@ ghost use Rattle.std.specs.Prelude.{◌≡◌, Ok, IsOk};
 ghost use Rattle.demangle_v0.specs.Productions.{impl_items, self_type_continuation, impl_path_continuation};
 ghost use Rattle.demangle_v0.specs.Parsers.{CanAdvance, Advanced, AdvancedRest, AdvancedWithoutOutput, Paced};
 
-use crate::parser::machine::Parser;
+use crate::parser::parse::Parser;
 use crate::parser::{Continuation, StepError};
 use demangle_v0_tokens::fixed_texts::FixedText;
 

@@ -7,7 +7,7 @@ ghost use Rattle.demangle_v0.specs.Parsers.{moved, Paced};
 ghost use Rattle.demangle_v0.specs.Steps.{LooksWithin};
 ghost use Rattle.demangle_v0.specs.Continuations.{after_list, is_list_end, list_costs};
 
-use crate::parser::machine::Parser;
+use crate::parser::parse::Parser;
 use demangle_v0_tokens::fixed_texts::FixedText;
 
 /// Returns the text before an element: none before the first.

@@ -14,7 +14,7 @@ ghost use Rattle.demangle_v0_tokens.specs.declared.token.Token.TheVariants as To
 ghost use Rattle.demangle_v0_tokens.specs.declared.fixed_texts.FixedText.{FixedText};
 ghost use Rattle.demangle_symbol.specs.declared.cursor.ident.Ident.{Ident};
 
-use crate::parser::machine::Parser;
+use crate::parser::parse::Parser;
 use crate::parser::{Continuation, StepError};
 use demangle_sink::SinkRefused;
 use demangle_symbol::cursor::{Ident, Looks, Symbol};

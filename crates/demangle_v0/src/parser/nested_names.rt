@@ -5,7 +5,7 @@ ghost use Rattle.demangle_v0.specs.Parsers.{CanPrint, KeepsFuel, NamesEnd, Names
 ghost use Rattle.demangle_v0.specs.StepRuns.{name_frames};
 
 use crate::parser::frames::Frame;
-use crate::parser::machine::Parser;
+use crate::parser::parse::Parser;
 use crate::parser::{Continuation, StepError};
 use demangle_v0_tokens::output::Output;
 

@@ -6,7 +6,7 @@ ghost use Rattle.std.specs.Prelude.{IsOk};
 ghost use Rattle.demangle_v0.specs.Parsers.{Performed, CanPerform, Paced};
 ghost use Rattle.demangle_v0.specs.Productions.{out_of_line_continuation};
 
-use crate::parser::machine::Parser;
+use crate::parser::parse::Parser;
 use crate::parser::{Continuation, StepError};
 use demangle_v0_tokens::output::Output;
 use demangle_v0_tokens::token::TokenKind;

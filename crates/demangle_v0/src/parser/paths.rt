@@ -8,7 +8,7 @@ ghost use Rattle.demangle_v0.specs.Loops.{first_looks};
 ghost use Rattle.demangle_v0_grammar.specs.Table.{path};
 ghost use Rattle.demangle_v0_tokens.specs.Tags.{path_of};
 
-use crate::parser::machine::Parser;
+use crate::parser::parse::Parser;
 use crate::parser::{Continuation, StepError};
 use demangle_v0_tokens::fixed_texts::FixedText;
 use demangle_v0_tokens::output::Output;

@@ -4,7 +4,7 @@
 ghost use Rattle.std.specs.Prelude.{◌==◌, ◌+◌, IsOk};
 ghost use Rattle.demangle_v0.specs.Parsers.{CanAdvance, Advanced, Paced};
 
-use crate::parser::machine::Parser;
+use crate::parser::parse::Parser;
 use crate::parser::{Continuation, StepError};
 use demangle_v0_tokens::fixed_texts::FixedText;
 use demangle_v0_tokens::tags::{PatternKind, pattern_kind};

@@ -8,7 +8,7 @@ ghost use Rattle.demangle_v0.specs.Continuations.{after_reference_lifetime, life
 ghost use Rattle.demangle_v0_tokens.specs.Tokens.{print_looks};
 ghost use Rattle.demangle_v0_tokens.specs.Tags.{reference_to};
 
-use crate::parser::machine::Parser;
+use crate::parser::parse::Parser;
 use crate::parser::{Continuation, StepError};
 use demangle_v0_tokens::fixed_texts::FixedText;
 use demangle_v0_tokens::output::Output;

@@ -5,7 +5,7 @@ ghost use Rattle.demangle_v0.specs.Loops.{state_at};
 ghost use Rattle.demangle_v0.specs.Skips.{after_skip, is_skipped, skipped_continuation};
 
 use crate::fuel::{Fuel, fuel_after};
-use crate::parser::machine::Parser;
+use crate::parser::parse::Parser;
 use crate::parser::steps::{Checkpoint, ReadOutcome, Unfinished};
 use crate::parser::{Continuation, State};
 use demangle_symbol::form::Form;

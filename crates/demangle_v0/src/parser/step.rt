@@ -9,7 +9,7 @@ ghost use Rattle.demangle_v0.specs.Skips.{is_skipped};
 ghost use Rattle.demangle_v0.specs.StepRuns.{StepsDone};
 
 use crate::parser::frames::Frame;
-use crate::parser::machine::Parser;
+use crate::parser::parse::Parser;
 use crate::parser::{Continuation, State, StepError};
 use demangle_sink::SinkRefused;
 use demangle_v0_tokens::output::Output;

@@ -3,7 +3,7 @@ ghost use Rattle.std.specs.Prelude.{◌≡◌, ◌≤◌, length};
 ghost use Rattle.demangle_v0.specs.Parsers.{IsValid, ReadSteps, Same, checked_at};
 ghost use Rattle.demangle_v0.specs.Loops.{first_state};
 
-use crate::parser::machine::Parser;
+use crate::parser::parse::Parser;
 use crate::parser::{Continuation, State};
 use demangle_symbol::cursor::MAX_DEPTH;
 use demangle_v0_tokens::output::NoOutput;

@@ -10,7 +10,7 @@ ghost use Rattle.demangle_v0_tokens.specs.Tokens.{IsTokenWithin};
 ghost use Rattle.demangle_v0_tokens.specs.Texts.{token_items};
 ghost use Rattle.demangle_v0_tokens.specs.Tokens.{print_looks, token_of, texts_of};
 
-use crate::parser::machine::Parser;
+use crate::parser::parse::Parser;
 use crate::parser::{Continuation, StepError};
 use demangle_sink::SinkRefused;
 use demangle_v0_tokens::output::Output;

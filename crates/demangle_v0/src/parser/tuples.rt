@@ -7,7 +7,7 @@ ghost use Rattle.demangle_v0_tokens.specs.Tags.{constructed_of};
 ghost use Rattle.demangle_v0_tokens.specs.declared.tags.ConstructedType.TheVariants as ConstructedType;
 
 use crate::parser::Continuation;
-use crate::parser::machine::Parser;
+use crate::parser::parse::Parser;
 use demangle_v0_tokens::fixed_texts::FixedText;
 
 impl Parser<'_, '_> {

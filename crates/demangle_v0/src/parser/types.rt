@@ -6,7 +6,7 @@ ghost use Rattle.demangle_v0.specs.Parsers.{Performed, PerformedRest, CanPerform
 ghost use Rattle.demangle_v0.specs.Traces.{frame_at};
 ghost use Rattle.demangle_v0_tokens.specs.Tags.{constructed_of, type_of};
 
-use crate::parser::machine::Parser;
+use crate::parser::parse::Parser;
 use crate::parser::{Continuation, StepError};
 use demangle_v0_tokens::fixed_texts::{FixedText, basic_type_text};
 use demangle_v0_tokens::output::Output;

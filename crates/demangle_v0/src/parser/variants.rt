@@ -5,8 +5,8 @@ ghost use Rattle.std.specs.Prelude.{◌≡◌, None, Ok, Some, IsOk};
 ghost use Rattle.demangle_v0.specs.Parsers.{Performed, CanPerform, CanAdvance, Advanced, AdvancedRest, braced, Paced};
 ghost use Rattle.demangle_v0_tokens.specs.Tags.{variant_of};
 
-use crate::parser::machine::Parser;
 use crate::parser::names::has_encoded_name;
+use crate::parser::parse::Parser;
 use crate::parser::{Continuation, StepError};
 use demangle_v0_tokens::fixed_texts::FixedText;
 use demangle_v0_tokens::output::Output;

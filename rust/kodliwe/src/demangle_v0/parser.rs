@@ -22,7 +22,7 @@ pub mod frames;
 mod functions;
 mod impls;
 mod lists;
-pub mod machine;
+pub mod parse;
 mod names;
 mod nested_names;
 mod out_of_line;

@@ -6,7 +6,7 @@ use crate::demangle_sink::{SinkRefused, SizeLimitedFmtAdapter, TextSink};
 use crate::demangle_v0::fuel::Fuel;
 use crate::demangle_v0::parser::Continuation;
 use crate::demangle_v0::parser::frames::{FULL_STACK, MIDDLE_STACK, UNUSED_FRAME};
-use crate::demangle_v0::parser::machine::Parser;
+use crate::demangle_v0::parser::parse::Parser;
 use crate::demangle_v0::parser::skip::is_skipped;
 use crate::demangle_v0::parser::steps::Unfinished;
 

@@ -9,7 +9,7 @@ use crate::demangle_sink::{SizeLimitedFmtAdapter, TextSink};
 use crate::demangle_symbol::cursor::Symbol;
 use crate::demangle_symbol::form::Form;
 use crate::demangle_v0::parser::frames::{FULL_STACK, MIDDLE_STACK, SHORT_STACK, UNUSED_FRAME};
-use crate::demangle_v0::parser::machine::Parser;
+use crate::demangle_v0::parser::parse::Parser;
 use crate::demangle_v0::parser::steps::ReadOutcome;
 #[cfg(feature = "stream")]
 use crate::demangle_v0::parser::steps::Unfinished;

@@ -5,7 +5,7 @@ use crate::demangle_sink::{SinkRefused, SizeLimitedFmtAdapter, TextSink};
 use crate::demangle_symbol::cursor::Symbol;
 use crate::demangle_symbol::form::Form;
 use crate::demangle_v0::parser::frames::{SHORT_STACK, UNUSED_FRAME};
-use crate::demangle_v0::parser::machine::Parser;
+use crate::demangle_v0::parser::parse::Parser;
 use crate::demangle_v0_tokens::source::Source;
 
 /// A v0 symbol that was read: the bytes after its prefix, with the suffix.

@@ -3,7 +3,7 @@
 
 use crate::demangle_v0::parser::Continuation;
 use crate::demangle_v0::parser::lists::separator;
-use crate::demangle_v0::parser::machine::Parser;
+use crate::demangle_v0::parser::parse::Parser;
 use crate::demangle_v0_tokens::fixed_texts::FixedText;
 
 impl Parser<'_, '_> {

@@ -2,7 +2,7 @@
 //! Back references, whose target is a path, type or constant before them.
 
 use crate::demangle_v0::parser::frames::Frame;
-use crate::demangle_v0::parser::machine::Parser;
+use crate::demangle_v0::parser::parse::Parser;
 use crate::demangle_v0::parser::{Continuation, StepError};
 use crate::demangle_v0_tokens::backref::{BackrefOutcome, read_backref};
 use crate::demangle_v0_tokens::output::Output;

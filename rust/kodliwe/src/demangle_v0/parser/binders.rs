@@ -2,7 +2,7 @@
 //! Binders: lifetimes that a function type or dyn traits bring into scope.
 
 use crate::demangle_sink::SinkRefused;
-use crate::demangle_v0::parser::machine::Parser;
+use crate::demangle_v0::parser::parse::Parser;
 use crate::demangle_v0_tokens::output::Output;
 use crate::demangle_v0_tokens::token::Token;
 

@@ -2,7 +2,7 @@
 //! Continuations of lists of constants: arrays, tuples and the fields of variants.
 
 use crate::demangle_v0::parser::Continuation;
-use crate::demangle_v0::parser::machine::Parser;
+use crate::demangle_v0::parser::parse::Parser;
 use crate::demangle_v0_tokens::fixed_texts::FixedText;
 
 /// A kind of list whose elements are constants.

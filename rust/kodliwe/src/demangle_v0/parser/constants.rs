@@ -1,7 +1,7 @@
 // Made from crates/demangle_v0/src/parser/constants.rt by packaging/crate/erase.py: edit that file instead.
 //! Continuations of constants.
 
-use crate::demangle_v0::parser::machine::Parser;
+use crate::demangle_v0::parser::parse::Parser;
 use crate::demangle_v0::parser::{Continuation, StepError};
 use crate::demangle_v0_tokens::fixed_texts::FixedText;
 use crate::demangle_v0_tokens::output::Output;

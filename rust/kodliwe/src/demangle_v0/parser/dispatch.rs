@@ -2,7 +2,7 @@
 //! Calls the method of each continuation.
 
 use crate::demangle_v0::parser::constant_lists::ConstantList;
-use crate::demangle_v0::parser::machine::Parser;
+use crate::demangle_v0::parser::parse::Parser;
 use crate::demangle_v0::parser::out_of_line::OutOfLine;
 use crate::demangle_v0::parser::types::may_have_splat;
 use crate::demangle_v0::parser::{Continuation, StepError};

@@ -2,7 +2,7 @@
 //! Continuations of trait objects, which are `dyn` types.
 
 use crate::demangle_v0::parser::lists::separator;
-use crate::demangle_v0::parser::machine::Parser;
+use crate::demangle_v0::parser::parse::Parser;
 use crate::demangle_v0::parser::{Continuation, StepError};
 use crate::demangle_v0_tokens::fixed_texts::FixedText;
 use crate::demangle_v0_tokens::output::Output;

@@ -2,7 +2,7 @@
 //! Continuations that do nothing but queue a fixed text.
 
 use crate::demangle_v0::parser::Continuation;
-use crate::demangle_v0::parser::machine::Parser;
+use crate::demangle_v0::parser::parse::Parser;
 use crate::demangle_v0_tokens::fixed_texts::FixedText;
 
 /// A fixed text to queue, and what follows it.

@@ -1,7 +1,7 @@
 // Made from crates/demangle_v0/src/parser/lists.rt by packaging/crate/erase.py: edit that file instead.
 //! Lists: where they end, and what separates their elements.
 
-use crate::demangle_v0::parser::machine::Parser;
+use crate::demangle_v0::parser::parse::Parser;
 use crate::demangle_v0_tokens::fixed_texts::FixedText;
 
 /// Returns the text before an element: none before the first.

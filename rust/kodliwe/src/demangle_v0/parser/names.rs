@@ -3,7 +3,7 @@
 
 use crate::demangle_sink::SinkRefused;
 use crate::demangle_symbol::cursor::{Ident, Symbol};
-use crate::demangle_v0::parser::machine::Parser;
+use crate::demangle_v0::parser::parse::Parser;
 use crate::demangle_v0::parser::{Continuation, StepError};
 use crate::demangle_v0_tokens::fixed_texts::FixedText;
 use crate::demangle_v0_tokens::output::Output;

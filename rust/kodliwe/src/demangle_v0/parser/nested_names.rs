@@ -3,7 +3,7 @@
 //! without frames and without a step for each.
 
 use crate::demangle_v0::parser::frames::Frame;
-use crate::demangle_v0::parser::machine::Parser;
+use crate::demangle_v0::parser::parse::Parser;
 use crate::demangle_v0::parser::{Continuation, StepError};
 use crate::demangle_v0_tokens::output::Output;
 

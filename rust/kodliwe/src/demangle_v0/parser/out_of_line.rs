@@ -2,7 +2,7 @@
 //! Continuations that few symbols have. Each is a call, so that the loops stay small: with the
 //! continuations themselves in place of `OutOfLine`, a v0 line takes 0.1 % more instructions.
 
-use crate::demangle_v0::parser::machine::Parser;
+use crate::demangle_v0::parser::parse::Parser;
 use crate::demangle_v0::parser::{Continuation, StepError};
 use crate::demangle_v0_tokens::output::Output;
 use crate::demangle_v0_tokens::token::TokenKind;

@@ -1,7 +1,7 @@
 // Made from crates/demangle_v0/src/parser/reference_types.rt by packaging/crate/erase.py: edit that file instead.
 //! Continuations of reference types.
 
-use crate::demangle_v0::parser::machine::Parser;
+use crate::demangle_v0::parser::parse::Parser;
 use crate::demangle_v0::parser::{Continuation, StepError};
 use crate::demangle_v0_tokens::fixed_texts::FixedText;
 use crate::demangle_v0_tokens::output::Output;

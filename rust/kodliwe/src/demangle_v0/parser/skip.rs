@@ -3,7 +3,7 @@
 
 use crate::demangle_symbol::form::Form;
 use crate::demangle_v0::fuel::{Fuel, fuel_after};
-use crate::demangle_v0::parser::machine::Parser;
+use crate::demangle_v0::parser::parse::Parser;
 use crate::demangle_v0::parser::steps::{Checkpoint, ReadOutcome, Unfinished};
 use crate::demangle_v0::parser::{Continuation, State};
 

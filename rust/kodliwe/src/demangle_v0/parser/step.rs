@@ -3,7 +3,7 @@
 
 use crate::demangle_sink::SinkRefused;
 use crate::demangle_v0::parser::frames::Frame;
-use crate::demangle_v0::parser::machine::Parser;
+use crate::demangle_v0::parser::parse::Parser;
 use crate::demangle_v0::parser::{Continuation, State, StepError};
 use crate::demangle_v0_tokens::output::Output;
 use crate::demangle_v0_tokens::token::Token;

@@ -2,7 +2,7 @@
 //! The loop that parses without output, and where a parse stops.
 
 use crate::demangle_symbol::cursor::MAX_DEPTH;
-use crate::demangle_v0::parser::machine::Parser;
+use crate::demangle_v0::parser::parse::Parser;
 use crate::demangle_v0::parser::{Continuation, State};
 use crate::demangle_v0_tokens::output::NoOutput;
 

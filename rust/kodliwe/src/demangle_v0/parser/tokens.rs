@@ -2,7 +2,7 @@
 //! Reads tokens and prints them.
 
 use crate::demangle_sink::SinkRefused;
-use crate::demangle_v0::parser::machine::Parser;
+use crate::demangle_v0::parser::parse::Parser;
 use crate::demangle_v0::parser::{Continuation, StepError};
 use crate::demangle_v0_tokens::output::Output;
 use crate::demangle_v0_tokens::read::{TokenOutcome, TokenReader};

@@ -2,7 +2,7 @@
 //! Continuations of tuple types.
 
 use crate::demangle_v0::parser::Continuation;
-use crate::demangle_v0::parser::machine::Parser;
+use crate::demangle_v0::parser::parse::Parser;
 use crate::demangle_v0_tokens::fixed_texts::FixedText;
 
 impl Parser<'_, '_> {
