@@ -4,8 +4,8 @@ ghost use Rattle.demangle_v0_grammar.specs.Binders.{binder_texts};
 ghost use Rattle.demangle_sink.specs.Limit.{Prints, Ready};
 ghost use Rattle.demangle_v0_grammar.specs.Reading.{letter_of};
 
-use demangle_sink::{SinkRefused, SizeLimitedFmtAdapter, TextSink, put_char, put_each};
-use itoa::Buffer;
+use crate::render::numbers::put_decimal;
+use demangle_sink::{SinkRefused, SizeLimitedFmtAdapter, TextSink, put_char};
 
 /// Prints the name of the lifetime of a number: a letter, or `_` and the number.
 fn put_letter<S: TextSink>(
@@ -19,8 +19,8 @@ fn put_letter<S: TextSink>(
         return put_char(char::from(b'a' + number as u8), out);
     }
     // After `'z` comes `'_26`: the number itself, not its distance from the letters.
-    let mut buffer = Buffer::new();
-    put_each(&["_", buffer.format(number)], out)
+    out.put("_")?;
+    put_decimal(number, out)
 }
 
 /// Prints the lifetime of a number.

@@ -1,8 +1,8 @@
 // Made from crates/demangle_v0_tokens/src/render/lifetimes.rt by packaging/crate/erase.py: edit that file instead.
 //! Prints the names of lifetimes, and binders.
 
-use crate::demangle_sink::{SinkRefused, SizeLimitedFmtAdapter, TextSink, put_char, put_each};
-use crate::support::itoa::Buffer;
+use crate::demangle_sink::{SinkRefused, SizeLimitedFmtAdapter, TextSink, put_char};
+use crate::demangle_v0_tokens::render::numbers::put_decimal;
 
 /// Prints the name of the lifetime of a number: a letter, or `_` and the number.
 fn put_letter<S: TextSink>(
@@ -13,8 +13,8 @@ fn put_letter<S: TextSink>(
         return put_char(char::from(b'a' + number as u8), out);
     }
     // After `'z` comes `'_26`: the number itself, not its distance from the letters.
-    let mut buffer = Buffer::new();
-    put_each(&["_", buffer.format(number)], out)
+    out.put("_")?;
+    put_decimal(number, out)
 }
 
 /// Prints the lifetime of a number.
