@@ -21,7 +21,7 @@ const FUEL_PER_BYTE: usize = 12;
 const FIRST_FUEL: usize = 64;
 
 /// The fuel for those steps that a byte adds which is read outside of references.
-const EARNED_FUEL: usize = 4;
+const EARNED_FUEL: usize = 3;
 
 /// What a constant or a function type uses up of that part.
 const SLOW_FUEL: usize = 64;

@@ -120,12 +120,12 @@ fn references_have_little_fuel() -> Result<(), Fail> {
     let rt = HostRuntime;
     let alloc = rt.alloc();
     // Each reference has six steps and five bytes, which use up 32. There are 64 at the start, and the
-    // first 13 bytes earn 52, and each reference 12.
+    // first 13 bytes earn 39, and each reference 9.
     for (count, is_wanted) in [
         (1usize, true),
         (3, true),
-        (5, true),
-        (6, false),
+        (4, true),
+        (5, false),
         (40, false),
     ] {
         let text = repeated(alloc, "_RINvC1a1bRRRRu", "B7_", count)?;
