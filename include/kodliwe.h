@@ -34,6 +34,7 @@
 
 #include <stdbool.h>
 #include <stddef.h>
+#include <stdint.h>
 
 /* A program for Windows that links with kodliwe.dll may define KODLIWE_DLL. Each call is then one jump shorter. */
 #if defined(_WIN32) && defined(KODLIWE_DLL)
@@ -105,13 +106,21 @@ KODLIWE_API size_t kodliwe_print_part(const char *symbol, size_t symbol_len, siz
 KODLIWE_API size_t kodliwe_demangle_folded(const char *symbol, size_t symbol_len, char *out, size_t out_size,
                                            bool include_hash, size_t limit);
 
+/* Given as the limit of a text, it says that there is none. */
+#define KODLIWE_NO_LIMIT SIZE_MAX
+
 /* Writes a text to out, as a C string, with each Rust symbol in it replaced by its path. The text may be a line of a log, a
  * backtrace or a whole file, and the call may be made in a handler. The text is any bytes. Bytes outside symbols stay
  * unchanged.
  *
- * A candidate symbol starts at _ZN or _R. It ends before the next byte that is not an ASCII letter, a digit, $, . or _. Its
- * path is cut as by kodliwe_demangle_limited. After a letter or a digit it stays, as in SW_RC0.zip. A single _ before a
- * symbol, as macOS has it, is replaced with it, if the _ is the first byte or follows one that no symbol may have.
+ * A candidate symbol starts at _ZN or _R. It ends before the next byte that is not an ASCII letter, a digit, $, . or _.
+ * After a letter or a digit it stays, as in SW_RC0.zip. A single _ before a symbol, as macOS has it, is replaced with it, if
+ * the _ is the first byte or follows one that no symbol may have.
+ *
+ * Each path is cut after at most limit bytes, as by kodliwe_demangle_limited. With KODLIWE_NO_LIMIT, the path of a symbol
+ * of n bytes is cut after at most 999 n - 20 bytes, and 1,000,000 at most, so the text has at most 1,000 bytes for each of
+ * its own. A path is also cut where the references of its symbol would have more than 384 n bytes, or more than
+ * 384,000,000, read again. So with KODLIWE_NO_LIMIT the time grows with the text alone.
  *
  * Returns the number of bytes of the whole new text and its NUL, whatever out_size is. It writes as much of the text to out
  * as kodliwe_demangle does of a path. The result is never 0. It is SIZE_MAX if a size_t cannot hold the number, which needs

@@ -127,11 +127,14 @@ def check_figures():
 
 # How many new counts of looks each function makes. Work on a new count is in no bound.
 NEW_COUNTS = {
+    "demangle_symbol/src/cursor/looks.rt": {"new": 2},
     "demangle_v0/src/parser/parse.rt": {"at_path": 1, "in_larger_stack": 1},
     "demangle_v0/src/printer.rt": {"print_validated": 1},
-    "rustc_demangle/src/lib.rt": {"demangle": 1},
-    "rustc_demangle/src/stream/memo.rt": {"write_new": 2, "write_run": 1},
-    "rustc_demangle/src/text.rt": {"put_run": 1},
+    "kodliwe/src/filtering.rt": {"write_parts": 1},
+    "rustc_demangle/src/lib.rt": {"demangle": 1, "try_demangle": 1},
+    "rustc_demangle/src/slice.rt": {"demangle_slice_formatted": 1},
+    "rustc_demangle/src/stream/bytes.rt": {"step": 1, "demangle_bytes_formatted": 1},
+    "rustc_demangle/src/text.rt": {"put_text": 1},
     "rustc_demangle/src/value.rt": {"read_run": 1},
     "rustc_demangle/src/value/printing.rt": {"write_formatted": 1, "write_limited": 1, "write_folded": 1, "write_pieces_with_path_len": 1},
 }
@@ -146,7 +149,7 @@ def new_counts(path):
         for line in file:
             code = line.split("//")[0]
             name = (re.findall(r"\bfn (\w+)", code) or [name])[-1]
-            for _ in re.findall(r"\bLooks::new\(\)", code):
+            for _ in re.findall(r"\b(?:Run)?Looks::new\(\)", code):
                 found[name] = found.get(name, 0) + 1
     return found
 

@@ -8,6 +8,8 @@ It prints a line for each of these with each build, and at last how many passed:
 
   log           a byte of Latin-1 and a NUL in a log stay, and the symbols around them are demangled
   folded        -f and --fold print _ for generic arguments, of repeated symbols too, with the hash and without it
+  reread        a symbol is cut where its references would have 384 times its bytes read again: in a text and as an argument, with
+                each option, also where the input is cut
   inputs        several inputs in the order of the arguments, one of them without its last line feed
   words         -- and symbols that begin with -; 10,000 symbols as arguments
   symbols       an argument that is a symbol prints what the library says of the whole of it, with and without its underscores; any
@@ -48,7 +50,7 @@ It prints a line for each of these with each build, and at last how many passed:
   completions   bash, zsh and fish offer each option, and bash the files of an option after its =
   prompts       at the prompts of bash, zsh and fish: files after < and >, and no short options in one word
   filter        over the stored corpus and hostile symbols, each run has the output of demangle_filter, except for what the
-                bytes before it change
+                bytes before it change, and for the paths that are cut earlier, of which there are 9 and 6
   preceded      the bytes before a symbol determine what its path takes the place of, also where the input is cut
   underscored   lines of nm print the same with an underscore before each symbol, as macOS has them
   kinds         lines of nm, objdump, three linkers' maps, perf, backtraces, sanitizers and JSON: each real symbol of the corpus is
@@ -125,6 +127,17 @@ def folded():
     # In folded arguments no error is printed, so the parse goes on after them.
     same(run("_RNvIC1aL0_E1b"), (b"a::<'{invalid syntax}>::?\n", "", 0))
     same(run("-f", "_RNvIC1aL0_E1b"), (b"a::<_>::b\n", "", 0))
+
+
+def reread():
+    # The test `each_byte_of_a_symbol_allows_384` of demangle_vectors has the arithmetic.
+    names = b"Nt" * 62 + b"C0" + b"0" * 62
+    symbol = b"_RMC0TT%bE%bE" % (names + b"B4_" * 30, b"B3_" * 22)
+    path = b"<(%b(%b{size limit reached}" % (b"(%b), " % (b", " * 30) * 22, b", " * 28)
+    line = b"x %b y\n"
+    for words in [[], ["-f"], ["--hash"], ["-f", "--hash"], ["-l", "1000000"]]:
+        same(run(*words, symbol, line[:-1] % symbol), (path + b"\n" + line % path, "", 0))
+        same(run(*words, text=line % symbol * 400), (line % path * 400, "", 0))
 
 
 def inputs():
@@ -816,14 +829,26 @@ def line_filter():
 RUN = re.compile(rb"(?:_ZN|_R)[0-9A-Za-z_.$]*")
 
 
-def by_runs(text, words):
-    """The text with each run replaced that has no letter or digit before it; a path also replaces a single `_` before its run."""
+def paths_of_runs(text, ours, words):
+    """
+    Returns the path of each run, or the run itself, and how many paths kodliwe cuts earlier than demangle_filter. All others are what
+    demangle_filter prints with the words.
+    """
     given = b"\n".join(RUN.findall(text))
     ran = subprocess.run([line_filter(), *words], input=given, stdout=subprocess.PIPE, check=True, timeout=120)
-    paths = iter(ran.stdout.split(b"\n"))
+    paths = run(*ours, text=given)[0].split(b"\n")
+    cut = [(path, whole) for path, whole in zip(paths, ran.stdout.split(b"\n"), strict=True) if path != whole]
+    for path, whole in cut:
+        assert texts.is_cut_earlier(path, whole), "%r.. is neither the path nor its start" % path[:100]
+    return paths, len(cut)
+
+
+def by_runs(text, paths):
+    """The text with each run replaced that has no letter or digit before it; a path also replaces a single `_` before its run."""
+    left = iter(paths)
     parts, kept = [], 0
     for found in RUN.finditer(text):
-        path, start = next(paths), found.start()
+        path, start = next(left), found.start()
         before = text[max(kept, start - 2) : start]
         if path == found[0] or before[-1:].isalnum():
             continue
@@ -899,11 +924,14 @@ def prompts():
 
 
 def filter_():
-    texts = [read(CORPUS), b"".join(symbol.encode() + b"\n" for _, symbol in hostile())]
-    for text in texts:
+    lines = b"".join(symbol.encode() + b"\n" for _, symbol in hostile())
+    # In each, so many symbols have references for which too much would be read again, or too long a path.
+    for text, many in [(read(CORPUS), 9), (lines, 6)]:
         for ours, words in [(["--hash"], []), ([], ["--no-hash"])]:
+            paths, cut = paths_of_runs(text, ours, words)
+            assert cut == many, "%d paths are cut earlier, with %r" % (cut, ours)
             found = run(*ours, text=text)
-            assert found == (by_runs(text, words), "", 0), "the output differs, with %r" % ours
+            assert found == (by_runs(text, paths), "", 0), "the output differs, with %r" % ours
 
 
 # Texts whose bytes before a run matter, and their output.
@@ -1266,6 +1294,7 @@ def no_symbol():
 CHECKS = [
     log,
     folded,
+    reread,
     inputs,
     words,
     symbols,

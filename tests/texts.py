@@ -145,6 +145,12 @@ def record(symbol, limit=NO_LIMIT):
     return struct.pack("<IQ", len(symbol), limit) + symbol
 
 
+def is_cut_earlier(path, whole):
+    """Returns whether a path is the start of another one, then the marker of a limit, and then the end of the other one."""
+    start, marker, end = path.rpartition(b"{size limit reached}")
+    return bool(marker) and len(start) < len(whole) and whole.startswith(start) and whole.endswith(end)
+
+
 def damaged(texts, count):
     """Yields that many texts, most of them stored symbols with a few changes. They are the same each time."""
     dice = random.Random(20251123)

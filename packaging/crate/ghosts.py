@@ -12,7 +12,7 @@ from trees import all_items, drop_item, flat, is_group, items_of, solid, split_a
 
 # The ghost types, whose size `prove!` shows to be zero next to each, and the word for what a value
 # of one counts.
-GHOST_TYPES = {"Looks": "looks", "Comparisons": "comparisons"}
+GHOST_TYPES = {"Looks": "looks", "RunLooks": "looks", "Comparisons": "comparisons"}
 
 
 def names_ghost_type(items):
@@ -179,7 +179,7 @@ class Dropper:
         if len(words) == 1:
             return words[0].text in self.names
         path = all(word.kind == "name" if at % 2 == 0 else word.is_punct(".") for at, word in enumerate(words))
-        return path and len(words) % 2 == 1 and words[-1].text in self.fields
+        return path and len(words) % 2 == 1 and (words[-1].text in self.fields or words[0].text in self.names)
 
 
 def only_call(body, parameters):

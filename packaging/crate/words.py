@@ -50,8 +50,8 @@ def is_text(token):
 def without_ghosts(text, members):
     for word in GHOST_TYPES.values():
         one = word.removesuffix("s")
-        text = re.sub(rf", (?:and (?:it )?counts|with) (?:its|the|each|one) {one}s?\b(?: counted and without)?", "", text)
-        few = rf"\b(?:makes|counts) (?:no|a|one|at most one) {one}s?\b"
+        text = re.sub(rf", (?:and (?:it )?counts|with) (?:its|their|the|each|one) {one}s?\b(?: counted and without)?", "", text)
+        few = rf"\b(?:makes|counts) (?:no|a|one|at most one) {one}s?\b|\bCounts (?:its|the) {one}s?\b"
         text = without_sentences(text, rf"`{word}`|\b(?:[Tt]he|of) {word}\b|{few}|\b[Ee]ach {one}\b")
     named = [name for name in members if f"`{name}`" in text]
     if named:
@@ -83,4 +83,7 @@ def drop_empty_line(tokens, at, mark):
     while at > 0 and tokens[at - 1].kind == "space":
         at -= 1
     if at > 0 and tokens[at - 1].text.rstrip() == mark:
-        del tokens[at - 1]
+        end = at
+        while end < len(tokens) and tokens[end].kind == "space":
+            end += 1
+        del tokens[at - 1 : end]

@@ -2,16 +2,16 @@
 //! include/kodliwe.h.
 #![tactic(auto)]
 
-ghost use Rattle.std.specs.Prelude.{◌≡◌, ◌+◌, ◌<◌, ◌≤◌, ◌↔◌, length, take, drop, codes, IsTrue};
+ghost use Rattle.std.specs.Prelude.{◌≡◌, ◌+◌, ◌<◌, ◌≤◌, ◌↔◌, true, false, length, take, drop, codes, IsTrue};
 ghost use Prim.Native.Nat.{min};
 ghost use Rattle.std.specs.List.{concat};
 ghost use Rattle.rustc_demangle.specs.Cut.{size};
-ghost use Rattle.rustc_demangle.specs.Rewritten.{rewritten_in, rewritten_within};
+ghost use Rattle.rustc_demangle.specs.Rewritten.{rewritten_in};
 ghost use Rattle.rustc_demangle.specs.PathEnds.{path_len_of, handed_with_path_len};
 ghost use Rattle.rustc_demangle.specs.Slice.{overlay};
 ghost use Rattle.rustc_demangle.specs.Stripped.{stripped};
 ghost use Rattle.rustc_demangle.specs.Symbols.{folded};
-ghost use Rattle.demangle_c_string.specs.CString.{IsRustSymbol, path_in, printed_path, path_within, c_string};
+ghost use Rattle.demangle_c_string.specs.CString.{IsRustSymbol, path_in, printed_path, path_within, c_string, texts};
 
 #[cfg(test)]
 mod tests;
@@ -19,8 +19,8 @@ mod version;
 
 use crate::version::VERSION;
 use demangle_c_string::{
-    MAX_SIZE, put_nul, symbol_of, text_of, write_part, write_part_formatted, write_text,
-    write_text_formatted,
+    MAX_SIZE, put_nul, symbol_of, text_of, write_folded_text, write_part, write_part_formatted,
+    write_text,
 };
 use rustc_demangle::sink::{SliceSink, TextSink};
 use rustc_demangle::{Format, write_with_path_len};
@@ -217,26 +217,30 @@ pub extern "C" fn kodliwe_demangle_text_folded(
     include_hash: bool,
     limit: usize,
 ) -> usize
-    ensures size { let rewritten = rewritten_in (folded include_hash (min limit MAX_SIZE)) text.now in
+    ensures size { let rewritten = rewritten_in (texts include_hash true limit) text.now in
         length rewritten < usize.MAX → result ≡ length rewritten + 1 }
-    ensures text { let rewritten = rewritten_in (folded include_hash (min limit MAX_SIZE)) text.now in
+    ensures text { let rewritten = rewritten_in (texts include_hash true limit) text.now in
         length rewritten < usize.MAX →
         out.new ≡ overlay out.old (c_string (length out.old) rewritten) }
-    ensures past { usize.MAX ≤ length (rewritten_in (folded include_hash (min limit MAX_SIZE)) text.now) →
+    ensures past { usize.MAX ≤ length (rewritten_in (texts include_hash true limit) text.now) →
         result ≡ usize.MAX }
 {
-    let format = Format::folded(include_hash, limit);
-    write_text_formatted(text, out, format)
+    write_folded_text(text, out, include_hash, limit)
 }
 
 /// Writes bytes to memory with each Rust symbol replaced by its path, and a 0 after them. Returns
 /// the number of bytes of that text and the 0.
 ///
 /// A candidate symbol starts at `_ZN` or `_R`. It ends before the next byte that is not an ASCII
-/// letter, a digit, `$`, `.` or `_`. Its path is cut as by `kodliwe_demangle_limited`. It stays
-/// directly after an ASCII letter or digit. A path also replaces a single `_` before its symbol, if
-/// that `_` is the first byte or follows a byte that no symbol may have. All other bytes stay
-/// unchanged.
+/// letter, a digit, `$`, `.` or `_`. It stays directly after an ASCII letter or digit. A path also
+/// replaces a single `_` before its symbol, if that `_` is the first byte or follows a byte that no
+/// symbol may have. All other bytes stay unchanged.
+///
+/// Each path is cut at `limit` bytes, and at 1,000,000 at most. If `limit` is `usize::MAX`, none is
+/// given: then a symbol of n bytes is cut at 999 n - 20 bytes, and at 1,000,000 at most, so that the
+/// text has at most 1,000 bytes for each of its own. A path is also cut where the references of its
+/// symbol would make a print read more than 384 bytes again for each of its own, or more than
+/// 384,000,000. The marker `{size limit reached}` and the suffix follow a cut path.
 ///
 /// The result does not depend on the size of the memory. The memory receives as much of the text as
 /// fits before a 0, and no byte after the 0 is changed. The result is `usize::MAX` if the number is
@@ -249,12 +253,12 @@ pub extern "C" fn kodliwe_demangle_text(
     include_hash: bool,
     limit: usize,
 ) -> usize
-    ensures size { let rewritten = rewritten_within include_hash (min limit MAX_SIZE) text.now in
+    ensures size { let rewritten = rewritten_in (texts include_hash false limit) text.now in
         length rewritten < usize.MAX → result ≡ length rewritten + 1 }
-    ensures text { let rewritten = rewritten_within include_hash (min limit MAX_SIZE) text.now in
+    ensures text { let rewritten = rewritten_in (texts include_hash false limit) text.now in
         length rewritten < usize.MAX →
         out.new ≡ overlay out.old (c_string (length out.old) rewritten) }
-    ensures past { usize.MAX ≤ length (rewritten_within include_hash (min limit MAX_SIZE) text.now) →
+    ensures past { usize.MAX ≤ length (rewritten_in (texts include_hash false limit) text.now) →
         result ≡ usize.MAX }
 {
     write_text(text, out, include_hash, limit)

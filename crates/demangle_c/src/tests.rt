@@ -283,6 +283,18 @@ fn the_limit_of_a_text_is_each_symbols(rt: HostRuntime) {
 }
 
 #[test]
+fn a_text_without_a_limit_has_1_000_bytes_for_each(rt: HostRuntime) {
+    let text = b"_RMC0FG15FTGf_Eu";
+    let mut out = [9; 1];
+    let most = 1_000 * text.len() + 1;
+    let linear = kodliwe_demangle_text(text, &mut out, false, usize::MAX);
+    assert!(rt; linear <= most);
+    let folded = kodliwe_demangle_text_folded(text, &mut out, false, usize::MAX);
+    assert!(rt; folded <= most);
+    assert!(rt; kodliwe_demangle_text(text, &mut out, false, 1_000_000) > most);
+}
+
+#[test]
 fn an_empty_text_is_a_nul(rt: HostRuntime) {
     let mut out = [9; 2];
     assert_eq!(rt; kodliwe_demangle_text(b"", &mut out, true, 1000), 1);

@@ -1,1 +1,2 @@
 pub mod NulTerminator
+pub mod PathLimits

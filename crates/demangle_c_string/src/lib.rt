@@ -2,18 +2,18 @@
 //! web pages share this code.
 #![tactic(auto)]
 
-ghost use Rattle.std.specs.Prelude.{◌≡◌, ◌+◌, ◌<◌, ◌≤◌, ℕ, List, length, drop, OnSome, IfSome, IfNone};
+ghost use Rattle.std.specs.Prelude.{◌≡◌, ◌+◌, ◌<◌, ◌≤◌, ℕ, true, false, List, length, drop, OnSome, IfSome, IfNone};
 ghost use Prim.Native.Nat.{min};
 ghost use Rattle.std.specs.List.{concat};
 ghost use Rattle.rustc_demangle.specs.Cut.{size};
-ghost use Rattle.rustc_demangle.specs.Rewritten.{rewritten_in, rewritten_within};
+ghost use Rattle.rustc_demangle.specs.Rewritten.{rewritten_in};
 ghost use Rattle.rustc_demangle.specs.Slice.{overlay};
 ghost use Rattle.rustc_demangle.specs.Stripped.{stripped};
 ghost use Rattle.rustc_demangle.specs.Symbols.{handed_in};
-ghost use Rattle.demangle_c_string.specs.CString.{IsRustSymbol, path_in, path_within, c_string};
+ghost use Rattle.demangle_c_string.specs.CString.{IsRustSymbol, path_in, path_in_text, path_within, capped, c_string, text_in, text_limit, texts};
 
 use rustc_demangle::sink::SliceSink;
-use rustc_demangle::{Demangle, Format, demangle_slice_formatted, try_demangle};
+use rustc_demangle::{Demangle, Form, Format, SizeLimit, demangle_slice_formatted, try_demangle};
 use std::str;
 
 /// The most bytes that are printed for a symbol, without the marker and the suffix.
@@ -39,6 +39,17 @@ pub fn symbol_of(bytes: &[u8]) -> Option<Demangle<'_>>
     ensures none { IfNone result (IsRustSymbol bytes.now → ⊥) }
 {
     try_demangle(text_of(bytes)?).ok()
+}
+
+/// Returns the format with a limit of at most `MAX_SIZE` bytes.
+fn capped(format: Format) -> Format
+    ensures { result ≡ capped format }
+{
+    let limit = match format.limit {
+        SizeLimit::Bytes(limit) => SizeLimit::Bytes(limit.min(MAX_SIZE)),
+        SizeLimit::Linear => SizeLimit::Linear,
+    };
+    Format { limit, ..format }
 }
 
 /// Writes a path from its byte `start` to memory, as far as the memory reaches. Returns the number
@@ -98,62 +109,134 @@ pub fn write_part(
 pub fn write_part_formatted(symbol: &[u8], out: &mut [u8], format: Format, start: usize) -> usize
     ensures none { (IsRustSymbol symbol.now → ⊥) → (result ≡ 0) × (out.new ≡ out.old) }
     ensures size { IsRustSymbol symbol.now →
-        let path = path_in symbol.now (record format { limit = min format.limit MAX_SIZE }) in
-        result ≡ length path + 1 }
+        result ≡ length (path_in symbol.now (capped format)) + 1 }
     ensures text { IsRustSymbol symbol.now →
-        let path = path_in symbol.now (record format { limit = min format.limit MAX_SIZE }) in
+        let path = path_in symbol.now (capped format) in
         out.new ≡ overlay out.old (c_string (length out.old) (drop start path)) }
 {
     let Some(demangled) = symbol_of(symbol) else {
         return 0;
     };
-    let most = format.limit.min(MAX_SIZE);
-    let capped = Format {
-        limit: most,
-        ..format
-    };
-    let len = write_path(&demangled, out, capped, start);
+    let len = write_path(&demangled, out, capped(format), start);
     put_nul(out, len.saturating_sub(start));
     len + 1
+}
+
+/// Writes the path of a symbol of a text to memory, with a 0 after it, and returns the number of
+/// bytes of both, as `write_part` does. The path is also cut where the references of the symbol would
+/// make a print read more than 384 bytes again for each of its own, or more than 384,000,000.
+pub fn write_path_in_text(symbol: &[u8], out: &mut [u8], include_hash: bool, limit: usize) -> usize
+    ensures none { (IsRustSymbol symbol.now → ⊥) → (result ≡ 0) × (out.new ≡ out.old) }
+    ensures size { IsRustSymbol symbol.now →
+        result ≡ length (path_in_text symbol.now include_hash false (min limit MAX_SIZE)) + 1 }
+    ensures text { IsRustSymbol symbol.now →
+        let path = path_in_text symbol.now include_hash false (min limit MAX_SIZE) in
+        out.new ≡ overlay out.old (c_string (length out.old) path) }
+{
+    let form = Form {
+        include_hash,
+        fold_arguments: false,
+    };
+    let format = Format::bounded(form, SizeLimit::Bytes(limit));
+    write_part_formatted(symbol, out, format, 0)
+}
+
+/// Writes a path as `write_path_in_text` does, with `_` for each list of generic arguments, and
+/// returns the same number.
+pub fn write_folded_path_in_text(
+    symbol: &[u8],
+    out: &mut [u8],
+    include_hash: bool,
+    limit: usize,
+) -> usize
+    ensures none { (IsRustSymbol symbol.now → ⊥) → (result ≡ 0) × (out.new ≡ out.old) }
+    ensures size { IsRustSymbol symbol.now →
+        result ≡ length (path_in_text symbol.now include_hash true (min limit MAX_SIZE)) + 1 }
+    ensures text { IsRustSymbol symbol.now →
+        let path = path_in_text symbol.now include_hash true (min limit MAX_SIZE) in
+        out.new ≡ overlay out.old (c_string (length out.old) path) }
+{
+    let form = Form {
+        include_hash,
+        fold_arguments: true,
+    };
+    let format = Format::bounded(form, SizeLimit::Bytes(limit));
+    write_part_formatted(symbol, out, format, 0)
+}
+
+/// Returns the limit of the paths of a text. `usize::MAX` says that the caller gives none, so the
+/// limit is linear in the length of each symbol. Any other number is the limit, and `MAX_SIZE` at
+/// most.
+fn text_limit(limit: usize) -> SizeLimit
+    ensures { result ≡ text_limit limit }
+{
+    if limit == usize::MAX {
+        SizeLimit::Linear
+    } else {
+        SizeLimit::Bytes(limit.min(MAX_SIZE))
+    }
+}
+
+/// Writes a text as `write_text` does, with the paths in a form, and returns the same number.
+fn write_text_in(text: &[u8], out: &mut [u8], form: Form, limit: usize) -> usize
+    ensures size { let rewritten = rewritten_in (text_in form limit) text.now in
+        length rewritten < usize.MAX → result ≡ length rewritten + 1 }
+    ensures text { let rewritten = rewritten_in (text_in form limit) text.now in
+        length rewritten < usize.MAX →
+        out.new ≡ overlay out.old (c_string (length out.old) rewritten) }
+    ensures past { usize.MAX ≤ length (rewritten_in (text_in form limit) text.now) →
+        result ≡ usize.MAX }
+{
+    let format = Format::bounded(form, text_limit(limit));
+    let Some(len) = demangle_slice_formatted(text, out, format) else {
+        return usize::MAX;
+    };
+    put_nul(out, len);
+    len.saturating_add(1)
 }
 
 /// Writes bytes to memory with each Rust symbol replaced by its path, and a 0 after them. Returns
 /// the number of bytes of that text and the 0.
 ///
-/// Each path is cut as by `write_part`. The result does not depend on the size of the memory. The
-/// memory receives as much of the text as fits before a 0, and no byte after the 0 is changed. The
-/// result is `usize::MAX` if the number is not smaller than that. The contents of the memory are
-/// then unspecified. The call does not allocate.
+/// Each path is cut at `limit` bytes, and at `MAX_SIZE` at most. If `limit` is `usize::MAX`, none is
+/// given: then a symbol of n bytes is cut at 999 n - 20 bytes, and at `MAX_SIZE` at most. A path is
+/// also cut where the references of its symbol would make a print read more than 384 bytes again for
+/// each of its own, or more than 384,000,000.
+///
+/// The result does not depend on the size of the memory. The memory receives as much of the text as
+/// fits before a 0, and no byte after the 0 is changed. The result is `usize::MAX` if the number is
+/// not smaller than that. The contents of the memory are then unspecified. The call does not
+/// allocate.
 pub fn write_text(text: &[u8], out: &mut [u8], include_hash: bool, limit: usize) -> usize
-    ensures size { let rewritten = rewritten_within include_hash (min limit MAX_SIZE) text.now in
+    ensures size { let rewritten = rewritten_in (texts include_hash false limit) text.now in
         length rewritten < usize.MAX → result ≡ length rewritten + 1 }
-    ensures text { let rewritten = rewritten_within include_hash (min limit MAX_SIZE) text.now in
+    ensures text { let rewritten = rewritten_in (texts include_hash false limit) text.now in
         length rewritten < usize.MAX →
         out.new ≡ overlay out.old (c_string (length out.old) rewritten) }
-    ensures past { usize.MAX ≤ length (rewritten_within include_hash (min limit MAX_SIZE) text.now) →
+    ensures past { usize.MAX ≤ length (rewritten_in (texts include_hash false limit) text.now) →
         result ≡ usize.MAX }
 {
-    let format = Format::unfolded(include_hash, limit);
-    write_text_formatted(text, out, format)
+    let form = Form {
+        include_hash,
+        fold_arguments: false,
+    };
+    write_text_in(text, out, form, limit)
 }
 
-/// Writes a text as `write_text` does, with each symbol printed in a format, and returns the same
-/// number. A limit of the format above `MAX_SIZE` counts as `MAX_SIZE`.
-pub fn write_text_formatted(text: &[u8], out: &mut [u8], format: Format) -> usize
-    ensures size { let capped = record format { limit = min format.limit MAX_SIZE } in
-        let rewritten = rewritten_in capped text.now in
+/// Writes a text as `write_text` does, with `_` for each list of generic arguments, and returns the
+/// same number.
+pub fn write_folded_text(text: &[u8], out: &mut [u8], include_hash: bool, limit: usize) -> usize
+    ensures size { let rewritten = rewritten_in (texts include_hash true limit) text.now in
         length rewritten < usize.MAX → result ≡ length rewritten + 1 }
-    ensures text { let capped = record format { limit = min format.limit MAX_SIZE } in
-        let rewritten = rewritten_in capped text.now in
+    ensures text { let rewritten = rewritten_in (texts include_hash true limit) text.now in
         length rewritten < usize.MAX →
         out.new ≡ overlay out.old (c_string (length out.old) rewritten) }
-    ensures past { let capped = record format { limit = min format.limit MAX_SIZE } in
-        usize.MAX ≤ length (rewritten_in capped text.now) → result ≡ usize.MAX }
+    ensures past { usize.MAX ≤ length (rewritten_in (texts include_hash true limit) text.now) →
+        result ≡ usize.MAX }
 {
-    let limit = format.limit.min(MAX_SIZE);
-    let Some(len) = demangle_slice_formatted(text, out, Format { limit, ..format }) else {
-        return usize::MAX;
+    let form = Form {
+        include_hash,
+        fold_arguments: true,
     };
-    put_nul(out, len);
-    len.saturating_add(1)
+    write_text_in(text, out, form, limit)
 }

@@ -4,15 +4,15 @@ use Rattle.std.specs.Option.{option_map_or}
 use Rattle.std.proofs.Math.Seq.{take-append_seam, drop-append_seam}
 use Rattle.std.proofs.lemmas.List.{take-append-drop}
 use Rattle.std.proofs.lemmas.List.Sums.{take_while-cons}
-use Rattle.std.specs.List.{prefix_len, take_while, list_all}
+use Rattle.std.specs.List.{prefix_len, take_while, list_all, concat}
 use Rattle.std.proofs.lemmas.Bool.{true≢false}
-use Rattle.rustc_demangle.specs.Shape.{form}
 use Rattle.rustc_demangle.specs.Stripped.{stripped}
-use Rattle.rustc_demangle.specs.Symbols.{IsSymbol, pieces_of, printed}
+use Rattle.rustc_demangle.specs.Symbols.{IsSymbol, pieces_in, form_in, handed_in}
+use Rattle.rustc_demangle.specs.declared.format.Format.{Format}
 use Rattle.rustc_demangle.proofs.SymbolLemmas.{symbol-pieces, pieces-symbol}
-use Rattle.rustc_demangle.specs.Filtered.{by_runs, is_run_byte, starts_run, HasNoStart, StartsOutsideRun, IsRun, IsReplacement, AreReplaced, IsFiltered, replacement, filtered_by, filtered}
+use Rattle.rustc_demangle.specs.Filtered.{by_runs, is_run_byte, starts_run, HasNoStart, StartsOutsideRun, IsRun, IsReplacement, AreReplaced, IsFiltered, replacement_in, filtered_by, filtered_in}
 use Rattle.rustc_demangle.proofs.RunStarts.{begins_prefix}
-use Rattle.rustc_demangle.proofs.RunLemmas.{turn, filtered_other, filtered_run, filtered_all, begins_with, first_of_run, replacement-symbol, replacement-no_symbol}
+use Rattle.rustc_demangle.proofs.RunLemmas.{turn, filtered_other, filtered_run, filtered_all, begins_with, first_of_run, replacement_in-symbol, replacement_in-no_symbol}
 
 pub cases : (b : Bool) → (b ≡ true) ⊎ (b ≡ false)
 cases true = inl refl
@@ -65,10 +65,10 @@ tail_no_start : (c : ℕ) (p : List ℕ) → HasNoStart (c ∷ p) → HasNoStart
 tail_no_start c p none = λ before rest e. none (c ∷ before) rest (ap (λ l. c ∷ l) e)
 
 -- the plain text at the start
-filtered-kept : (h : Bool) (p rest : List ℕ) → HasNoStart p → Starts rest → filtered h (p ++ rest) ≡ p ++ filtered h rest
+filtered-kept : (h : Format) (p rest : List ℕ) → HasNoStart p → Starts rest → filtered_in h (p ++ rest) ≡ p ++ filtered_in h rest
 filtered-kept h [] rest none starts = refl
 filtered-kept h (c ∷ p) rest none starts =
-    filtered_other (replacement h) c (p ++ rest) (no_start_append c p rest (none [] (c ∷ p) refl) starts)
+    filtered_other (replacement_in h) c (p ++ rest) (no_start_append c p rest (none [] (c ∷ p) refl) starts)
     ∙ ap (λ l. c ∷ l) (filtered-kept h p rest (tail_no_start c p none) starts)
 
 -- the run at the start
@@ -81,36 +81,36 @@ run_len (c ∷ run) following all stop = elim (cases (is_run_byte c)) [
   | inr not ↦ absurd (true≢false (sym all ∙ ap (λ b. b && list_all is_run_byte run) not))
 ]
 
-filtered-run : (h : Bool) (run following : List ℕ) → IsRun run following → filtered h (run ++ following) ≡ replacement h run ++ filtered h following
+filtered-run : (h : Format) (run following : List ℕ) → IsRun run following → filtered_in h (run ++ following) ≡ replacement_in h run ++ filtered_in h following
 filtered-run h run following is =
     let n = run_len run following is.all is.longest in
-    filtered_run (replacement h) (run ++ following) (begins_append run following is.begins)
-    ∙ ap (λ k. replacement h (take k (run ++ following)) ++ filtered h (drop k (run ++ following))) n
-    ∙ ap (λ l. replacement h l ++ filtered h (drop (length run) (run ++ following))) (take-append_seam run following)
-    ∙ ap (λ l. replacement h run ++ filtered h l) (drop-append_seam run following)
+    filtered_run (replacement_in h) (run ++ following) (begins_append run following is.begins)
+    ∙ ap (λ k. replacement_in h (take k (run ++ following)) ++ filtered_in h (drop k (run ++ following))) n
+    ∙ ap (λ l. replacement_in h l ++ filtered_in h (drop (length run) (run ++ following))) (take-append_seam run following)
+    ∙ ap (λ l. replacement_in h run ++ filtered_in h l) (drop-append_seam run following)
 
-pub stands : (h : Bool) (run text : List ℕ) → IsReplacement h run text → text ≡ replacement h run
-stands h run text (inl s) = s.1 ∙ sym (replacement-symbol h run s.0)
-stands h run text (inr s) = s.1 ∙ sym (replacement-no_symbol h run s.0)
+pub stands : (h : Format) (run text : List ℕ) → IsReplacement h run text → text ≡ replacement_in h run
+stands h run text (inl s) = s.1 ∙ sym (replacement_in-symbol h run s.0)
+stands h run text (inr s) = s.1 ∙ sym (replacement_in-no_symbol h run s.0)
 
-starts_of : (h : Bool) (parts : List (List ℕ × List ℕ)) (line out : List ℕ) → AreReplaced h parts line out → Starts line
+starts_of : (h : Format) (parts : List (List ℕ × List ℕ)) (line out : List ℕ) → AreReplaced h parts line out → Starts line
 starts_of h [] line out is = inl is.0
 starts_of h ((run, kept) ∷ parts) line out is =
     inr (subst (λ l. starts_run l ≡ true) (sym is.3) (begins_append run (kept ++ is.0) is.5.begins))
 
-runs_only : (h : Bool) (parts : List (List ℕ × List ℕ)) (line out : List ℕ) → AreReplaced h parts line out → out ≡ filtered h line
+runs_only : (h : Format) (parts : List (List ℕ × List ℕ)) (line out : List ℕ) → AreReplaced h parts line out → out ≡ filtered_in h line
 unfolding by_runs
-runs_only h [] line out is = is.1 ∙ sym (ap (filtered h) is.0)
+runs_only h [] line out is = is.1 ∙ sym (ap (filtered_in h) is.0)
 runs_only h ((run, kept) ∷ parts) line out is =
-    let rest_is : is.2 ≡ filtered h is.0 = runs_only h parts is.0 is.2 is.8 in
-    let following : filtered h (kept ++ is.0) ≡ kept ++ filtered h is.0 = filtered-kept h kept is.0 is.7 (starts_of h parts is.0 is.2 is.8) in
-    is.4 ∙ ap (λ l. l ++ (kept ++ is.2)) (stands h run is.1 is.6) ∙ ap (λ l. replacement h run ++ (kept ++ l)) rest_is
-    ∙ ap (λ l. replacement h run ++ l) (sym following) ∙ sym (filtered-run h run (kept ++ is.0) is.5) ∙ sym (ap (filtered h) is.3)
+    let rest_is : is.2 ≡ filtered_in h is.0 = runs_only h parts is.0 is.2 is.8 in
+    let following : filtered_in h (kept ++ is.0) ≡ kept ++ filtered_in h is.0 = filtered-kept h kept is.0 is.7 (starts_of h parts is.0 is.2 is.8) in
+    is.4 ∙ ap (λ l. l ++ (kept ++ is.2)) (stands h run is.1 is.6) ∙ ap (λ l. replacement_in h run ++ (kept ++ l)) rest_is
+    ∙ ap (λ l. replacement_in h run ++ l) (sym following) ∙ sym (filtered-run h run (kept ++ is.0) is.5) ∙ sym (ap (filtered_in h) is.3)
 
-pub filtered_only : (h : Bool) (line out : List ℕ) → IsFiltered h line out → out ≡ filtered h line
+pub filtered_only : (h : Format) (line out : List ℕ) → IsFiltered h line out → out ≡ filtered_in h line
 filtered_only h line out is =
     is.output ∙ ap (λ l. is.kept ++ l) (runs_only h is.parts is.rest is.rest_out is.runs)
-    ∙ sym (filtered-kept h is.kept is.rest is.no_start (starts_of h is.parts is.rest is.rest_out is.runs)) ∙ sym (ap (filtered h) is.whole)
+    ∙ sym (filtered-kept h is.kept is.rest is.no_start (starts_of h is.parts is.rest is.rest_out is.runs)) ∙ sym (ap (filtered_in h) is.whole)
 
 -- the longest run at the start
 pub run_all : (s : List ℕ) → list_all is_run_byte (take_while is_run_byte s) ≡ true
@@ -130,26 +130,26 @@ run_stops (c ∷ s) = elim (cases (is_run_byte c)) [
   | inr not ↦ subst (λ n. StartsOutsideRun (drop n (c ∷ s))) (sym (ap (λ b. cond b (1 + prefix_len is_run_byte s) 0) not)) not
 ]
 
-no_pieces : (h : Bool) (text : List ℕ) → pieces_of h text ≡ None → IsSymbol text → ⊥
-no_pieces h text none symbol = none≢some (sym none ∙ (pieces-symbol (form h false) text symbol).1)
+no_pieces : (h : Format) (text : List ℕ) → pieces_in (form_in h text) text ≡ None → IsSymbol text → ⊥
+no_pieces h text none symbol = none≢some (sym none ∙ (pieces-symbol (form_in h text) text symbol).1)
   where
     none≢some : {x : List (List ℕ) × List ℕ} → None ≡ Some x → ⊥
     none≢some e = cc
 
-pub replaced : (h : Bool) (run : List ℕ) → IsReplacement h run (replacement h run)
-replaced h run = at (pieces_of h (stripped run)) refl
+pub replaced : (h : Format) (run : List ℕ) → IsReplacement h run (replacement_in h run)
+replaced h run = at (pieces_in (form_in h (stripped run)) (stripped run)) refl
   where
-    at : (read : Option (List (List ℕ) × List ℕ)) → pieces_of h (stripped run) ≡ read
-        → (IsSymbol (stripped run) × (option_map_or (λ _. printed (stripped run) h) read run ≡ printed (stripped run) h))
-        ⊎ ((IsSymbol (stripped run) → ⊥) × (option_map_or (λ _. printed (stripped run) h) read run ≡ run))
+    at : (read : Option (List (List ℕ) × List ℕ)) → pieces_in (form_in h (stripped run)) (stripped run) ≡ read
+        → (IsSymbol (stripped run) × (option_map_or (λ _. concat (handed_in (stripped run) h)) read run ≡ concat (handed_in (stripped run) h)))
+        ⊎ ((IsSymbol (stripped run) → ⊥) × (option_map_or (λ _. concat (handed_in (stripped run) h)) read run ≡ run))
     at None e = inr (no_pieces h (stripped run) e, refl)
-    at (Some read) e = inl (symbol-pieces (form h false) (stripped run) read e, refl)
+    at (Some read) e = inl (symbol-pieces (form_in h (stripped run)) (stripped run) read e, refl)
 
-nothing : (h : Bool) → IsFiltered h [] []
+nothing : (h : Format) → IsFiltered h [] []
 nothing h = record { kept = []; rest = []; rest_out = []; parts = []; whole = refl; output = refl; no_start = none_in_none; runs = (refl, refl) }
 
 -- a character at the start, if no run starts there
-keep : (h : Bool) (c : ℕ) (s out : List ℕ) → starts_run (c ∷ s) ≡ false → IsFiltered h s out → IsFiltered h (c ∷ s) (c ∷ out)
+keep : (h : Format) (c : ℕ) (s out : List ℕ) → starts_run (c ∷ s) ≡ false → IsFiltered h s out → IsFiltered h (c ∷ s) (c ∷ out)
 keep h c s out none is = record {
   kept = c ∷ is.kept;
   rest = is.rest;
@@ -176,22 +176,22 @@ run_at c s some = record {
     prefix : take_while is_run_byte (c ∷ s) ≡ c ∷ take_while is_run_byte s
     prefix = take_while-cons is_run_byte c s ∙ ap (λ b. cond b (c ∷ take_while is_run_byte s) []) (ap is_run_byte (first_of_run (c ∷ s) some))
 
-replace : (h : Bool) (c : ℕ) (s out : List ℕ) → starts_run (c ∷ s) ≡ true → IsFiltered h (drop (prefix_len is_run_byte s) s) out
-    → IsFiltered h (c ∷ s) (replacement h (c ∷ take_while is_run_byte s) ++ out)
+replace : (h : Format) (c : ℕ) (s out : List ℕ) → starts_run (c ∷ s) ≡ true → IsFiltered h (drop (prefix_len is_run_byte s) s) out
+    → IsFiltered h (c ∷ s) (replacement_in h (c ∷ take_while is_run_byte s) ++ out)
 replace h c s out some is = record {
   kept = [];
   rest = c ∷ s;
-  rest_out = replacement h run ++ out;
+  rest_out = replacement_in h run ++ out;
   parts = (run, is.kept) ∷ is.parts;
   whole = refl;
   output = refl;
   no_start = none_in_none;
   runs = (
     is.rest,
-    replacement h run,
+    replacement_in h run,
     is.rest_out,
     ap (λ l. c ∷ l) (sym (take-append-drop (prefix_len is_run_byte s) s) ∙ ap (λ l. take_while is_run_byte s ++ l) is.whole),
-    ap (λ l. replacement h run ++ l) is.output,
+    ap (λ l. replacement_in h run ++ l) is.output,
     subst (IsRun run) is.whole (run_at c s some),
     replaced h run,
     is.no_start,
@@ -202,20 +202,20 @@ replace h c s out some is = record {
     run : List ℕ
     run = c ∷ take_while is_run_byte s
 
-from : (h : Bool) (skip : ℕ) (s : List ℕ) → IsFiltered h (drop skip s) (filtered_by (replacement h) skip s)
+from : (h : Format) (skip : ℕ) (s : List ℕ) → IsFiltered h (drop skip s) (filtered_by (replacement_in h) skip s)
 unfolding by_runs
 from h zero [] = nothing h
 from h (suc skip) [] = nothing h
 from h (suc skip) (c ∷ s) = from h skip s
 from h zero (c ∷ s) = elim (cases (starts_run (c ∷ s))) [
-  | inl some ↦ subst (IsFiltered h (c ∷ s)) (sym (ap (turn (replacement h) c s) some)) (replace h c s (filtered_by (replacement h) (prefix_len is_run_byte s) s) some (from h (prefix_len is_run_byte s) s))
-  | inr none ↦ subst (IsFiltered h (c ∷ s)) (sym (ap (turn (replacement h) c s) none)) (keep h c s (filtered_by (replacement h) zero s) none (from h zero s))
+  | inl some ↦ subst (IsFiltered h (c ∷ s)) (sym (ap (turn (replacement_in h) c s) some)) (replace h c s (filtered_by (replacement_in h) (prefix_len is_run_byte s) s) some (from h (prefix_len is_run_byte s) s))
+  | inr none ↦ subst (IsFiltered h (c ∷ s)) (sym (ap (turn (replacement_in h) c s) none)) (keep h c s (filtered_by (replacement_in h) zero s) none (from h zero s))
 ]
 
 -- the computed text is that of the division, and no other text is
-pub filtered_is : (h : Bool) (line out : List ℕ) → ((out ≡ filtered h line) → IsFiltered h line out) × (IsFiltered h line out → out ≡ filtered h line)
+pub filtered_is : (h : Format) (line out : List ℕ) → ((out ≡ filtered_in h line) → IsFiltered h line out) × (IsFiltered h line out → out ≡ filtered_in h line)
 filtered_is h line out = (λ e. subst (IsFiltered h line) (sym e) (from h zero line), filtered_only h line out)
 
 -- a text without a run is unchanged
-pub passes : (h : Bool) (line : List ℕ) → HasNoStart line → filtered h line ≡ line
-passes h line none = filtered_all (replacement h) line (λ k lt. none (take k line) (drop k line) (sym (take-append-drop k line)))
+pub passes : (h : Format) (line : List ℕ) → HasNoStart line → filtered_in h line ≡ line
+passes h line none = filtered_all (replacement_in h) line (λ k lt. none (take k line) (drop k line) (sym (take-append-drop k line)))

@@ -1,5 +1,5 @@
 -- The line feeds of texts that are printed and written.
-use Rattle.std.proofs.Common.{◌≡◌, ℕ, zero, suc, ◌+◌, ◌-◌, ◌≤◌, ◌⊎◌, inl, inr, not, ◌&&◌, Bool, true, false, eqb, cond, List, [], ◌∷◌, ◌++◌, length, take, drop, Option, None, Some, refl, sym, ap, ◌∙◌, arith, codes, nat_eq, bytes_eq, append-nil, option_map, option_and_then}
+use Rattle.std.proofs.Common.{◌≡◌, ℕ, zero, suc, ◌+◌, ◌-◌, ◌≤◌, ◌⊎◌, inl, inr, not, ◌&&◌, Bool, true, false, eqb, cond, List, [], ◌∷◌, ◌++◌, length, take, drop, Option, None, Some, refl, sym, ap, ◌∙◌, arith, codes, nat_eq, bytes_eq, nat_le, append-nil, option_map, option_and_then}
 use Rattle.std.specs.List.{concat, prefix_len, take_while, list_all, starts_with, position}
 use Rattle.std.specs.Option.{option_map_or}
 use Rattle.std.proofs.lemmas.List.{take-append-drop}
@@ -9,8 +9,10 @@ use Rattle.std.specs.Char.{encode_utf8, is_control}
 use Rattle.demangle_symbol.specs.Digits.{number}
 use lib.Utf8.{scalar as is_scalar}
 use Rattle.rustc_demangle.specs.Stripped.{stripped, is_thin_lto}
-use Rattle.rustc_demangle.specs.Symbols.{IsSymbol, pieces_of, handed, printed, most_bytes}
-use Rattle.rustc_demangle.specs.Filtered.{by_runs, is_run_byte, starts_run, replacement, filtered_by, filtered}
+use Rattle.rustc_demangle.specs.Limits.{most_bytes}
+use Rattle.rustc_demangle.specs.Symbols.{IsSymbol, pieces_in, form_in, limit_in, handed_in, unfolded}
+use Rattle.rustc_demangle.specs.declared.format.Format.{Format}
+use Rattle.rustc_demangle.specs.Filtered.{by_runs, is_run_byte, starts_run, replacement_in, filtered_by, filtered}
 use Rattle.rustc_demangle.specs.LineStream.{output_of}
 use Rattle.demangle_laws.proofs.FilterLaws.{run_all}
 use Rattle.rustc_demangle.proofs.LineDivision.{lines_join}
@@ -19,8 +21,9 @@ use Rattle.demangle_legacy.proofs.LegacyLaws.{legacy_spelled}
 use Rattle.rustc_demangle.proofs.SymbolLemmas.{symbol-pieces, pieces-legacy, pieces-v0}
 use Rattle.demangle_v0_grammar.proofs.V0Reading.{v0_is_read}
 use Rattle.demangle_laws.proofs.V0LineFeeds.{line_feeds-rendered}
-use Rattle.rustc_demangle.proofs.AllReferences.{unlimited_pieces}
-use Rattle.rustc_demangle.specs.Shape.{form, path_texts, legacy_pieces}
+use Rattle.demangle_v0_grammar.specs.References.{Move, says, follows, ends, bytes_after, texts_before, path_moves}
+use Rattle.demangle_v0_grammar.proofs.ReferenceLaw.{unlimited_texts}
+use Rattle.rustc_demangle.specs.Shape.{LimitedForm, texts_within, is_all, marked_unless, path_texts, legacy_pieces}
 use Rattle.demangle_sink.specs.Cut.{size, prefix_within, cut, marker}
 use Rattle.rustc_demangle.specs.Lines.{lines, line_feeds}
 use Rattle.demangle_legacy.specs.Legacy.{IsElements, IsLegacy}
@@ -193,41 +196,73 @@ line_feeds-elements (element ∷ elements) text suffix is =
     omega (arith, line_feeds-elements elements is.1 suffix is.5, ap line_feeds is.2, line_feeds-append is.0 (element ++ is.1), line_feeds-append element is.1, line_feeds-cons element elements)
 
 -- the pieces of a legacy symbol
-line_feeds-legacy : (hash : Bool) (text : List ℕ) (elements : List (List ℕ)) (suffix : List ℕ) → IsLegacy text elements suffix
-    → line_feeds (concat (legacy_pieces (form hash false) elements)) + line_feeds suffix ≤ line_feeds text
-line_feeds-legacy hash text elements suffix is =
+line_feeds-legacy : (form : LimitedForm) (text : List ℕ) (elements : List (List ℕ)) (suffix : List ℕ) → IsLegacy text elements suffix
+    → line_feeds (concat (legacy_pieces form elements)) + line_feeds suffix ≤ line_feeds text
+line_feeds-legacy form text elements suffix is =
+    let hash = form.plain.include_hash in
     omega (arith, line_feeds-joined (printed_elements hash elements), line_feeds-printed hash elements, line_feeds-elements elements is.1 suffix is.5, ap line_feeds is.2, line_feeds-append is.0 is.1)
+
+-- the pieces of a v0 symbol, up to a limit of the bytes that are read again
+line_feeds-before : (most : Option ℕ) (n used free : ℕ) (ms : List Move) → line_feeds (concat (texts_before most n used ms)) ≤ line_feeds (concat (texts_before None n free ms))
+line_feeds-before most n used free [] = omega arith
+line_feeds-before most n used free (says t ∷ ms) =
+    omega (arith, line_feeds-before most n used free ms, line_feeds-cons t (texts_before most n used ms), line_feeds-cons t (texts_before None n free ms))
+line_feeds-before None n used free (follows t ∷ ms) = line_feeds-before None n used free ms
+line_feeds-before (Some k) n used free (follows t ∷ ms) = at (nat_le (used + (n - t + 1)) k) (line_feeds-before (Some k) n (used + (n - t + 1)) free ms)
+  where
+    at : (b : Bool) → line_feeds (concat (texts_before (Some k) n (used + (n - t + 1)) ms)) ≤ line_feeds (concat (texts_before None n free ms))
+        → line_feeds (concat (cond b (texts_before (Some k) n (used + (n - t + 1)) ms) [])) ≤ line_feeds (concat (texts_before None n free ms))
+    at true h = h
+    at false h = omega arith
+line_feeds-before most n used free (ends e ∷ ms) = line_feeds-before most n (used - bytes_after n e) (free - bytes_after n e) ms
+
+line_feeds-marked : (all : Bool) (texts : List (List ℕ)) → line_feeds (concat (marked_unless all texts)) ≡ line_feeds (concat texts)
+line_feeds-marked true texts = refl
+line_feeds-marked false texts = omega (arith, line_feeds-concat texts (marker ∷ []))
+
+line_feeds-v0 : (inner : List ℕ) (form : LimitedForm) → line_feeds inner ≡ 0 → line_feeds (concat (path_texts inner form)) ≡ 0
+line_feeds-v0 inner form none =
+    omega (
+      arith,
+      line_feeds-marked (is_all inner form) (texts_within inner form),
+      line_feeds-before form.reread (length inner) 0 0 (path_moves inner form.plain),
+      ap (λ (ts : List (List ℕ)). line_feeds (concat ts)) (unlimited_texts inner form.plain),
+      line_feeds-rendered inner form.plain none,
+    )
 
 read_of : Option (List (List ℕ) × List ℕ) → List (List ℕ) × List ℕ
 read_of None = ([], [])
 read_of (Some read) = read
 
 -- a symbol without line feeds has none in its pieces, and none in its suffix
-line_feeds-symbol : (hash : Bool) (text : List ℕ) (read : List (List ℕ) × List ℕ) → pieces_of hash text ≡ Some read → line_feeds text ≡ 0
+line_feeds-symbol : (form : LimitedForm) (text : List ℕ) (read : List (List ℕ) × List ℕ) → pieces_in form text ≡ Some read → line_feeds text ≡ 0
     → (line_feeds (concat read.0) ≡ 0) × (line_feeds read.1 ≡ 0)
 unfolding read_of
-line_feeds-symbol hash text read e none = go (symbol-pieces (form hash false) text read e) where
+line_feeds-symbol form text read e none = go (symbol-pieces form text read e) where
   go : IsSymbol text → (line_feeds (concat read.0) ≡ 0) × (line_feeds read.1 ≡ 0)
   go (inl (elements, suffix, legacy, allowed)) =
-      let same : read ≡ (legacy_pieces (form hash false) elements, suffix) = ap read_of (sym e ∙ pieces-legacy (form hash false) text elements suffix (legacy_spelled text elements suffix legacy) allowed) in
-      let bound = line_feeds-legacy hash text elements suffix legacy in
+      let same : read ≡ (legacy_pieces form elements, suffix) = ap read_of (sym e ∙ pieces-legacy form text elements suffix (legacy_spelled text elements suffix legacy) allowed) in
+      let bound = line_feeds-legacy form text elements suffix legacy in
       (omega (arith, none, bound, ap (λ r. line_feeds (concat r.0)) same), omega (arith, none, bound, ap (λ r. line_feeds r.1) same))
   go (inr (inner, suffix, v0, allowed)) =
-      let same : read ≡ (path_texts inner (form hash false), suffix) = ap read_of (sym e ∙ pieces-v0 (form hash false) text inner suffix (v0_is_read text inner suffix v0) allowed) in
+      let same : read ≡ (path_texts inner form, suffix) = ap read_of (sym e ∙ pieces-v0 form text inner suffix (v0_is_read text inner suffix v0) allowed) in
       let part = v0.5 in
       let within : line_feeds inner ≡ 0 = omega (arith, none, ap line_feeds v0.1, line_feeds-append v0.0 inner) in (
-        ap (λ r. line_feeds (concat r.0)) same ∙ (ap (λ (ts : List (List ℕ)). line_feeds (concat ts)) (unlimited_pieces inner hash false) ∙ line_feeds-rendered inner hash within),
+        ap (λ r. line_feeds (concat r.0)) same ∙ line_feeds-v0 inner form within,
         omega (arith, within, ap (λ r. line_feeds r.1) same, ap line_feeds part.2, line_feeds-drop part.0 inner),
       )
 
 -- a text without line feeds prints none
-pub line_feeds-handed : (text : List ℕ) (hash : Bool) (limit : ℕ) → line_feeds text ≡ 0 → line_feeds (concat (handed text hash limit)) ≡ 0
-line_feeds-handed text hash limit none = at (pieces_of hash text) refl
+pub line_feeds-handed : (text : List ℕ) (format : Format) → line_feeds text ≡ 0 → line_feeds (concat (handed_in text format)) ≡ 0
+line_feeds-handed text format none = at (pieces_in (form_in format text) text) refl
   where
-    at : (read : Option (List (List ℕ) × List ℕ)) → pieces_of hash text ≡ read → line_feeds (concat (option_map_or (λ r. cut r.0 limit ++ r.1 ∷ []) read (text ∷ []))) ≡ 0
+    limit : ℕ
+    limit = limit_in format text
+
+    at : (read : Option (List (List ℕ) × List ℕ)) → pieces_in (form_in format text) text ≡ read → line_feeds (concat (option_map_or (λ r. cut r.0 limit ++ r.1 ∷ []) read (text ∷ []))) ≡ 0
     at None is = ap line_feeds (append-nil text) ∙ none
     at (Some read) is =
-        let h = line_feeds-symbol hash text read is none in
+        let h = line_feeds-symbol (form_in format text) text read is none in
         omega (arith, h.0, h.1, line_feeds-cut read.0 limit, line_feeds-concat (cut read.0 limit) (read.1 ∷ []), ap line_feeds (append-nil read.1))
 
 line_feeds-stripped : (s : List ℕ) → line_feeds (stripped s) ≤ line_feeds s
@@ -241,12 +276,12 @@ line_feeds-stripped (c ∷ s) = at (line_feeds-stripped s) (starts_with nat_eq (
     at following false d = omega (arith, following)
 
 -- the replacement of a run without line feeds has none
-pub line_feeds-replacement : (h : Bool) (run : List ℕ) → line_feeds run ≡ 0 → line_feeds (replacement h run) ≡ 0
-line_feeds-replacement h run none = at (pieces_of h (stripped run))
+pub line_feeds-replacement_in : (format : Format) (run : List ℕ) → line_feeds run ≡ 0 → line_feeds (replacement_in format run) ≡ 0
+line_feeds-replacement_in format run none = at (pieces_in (form_in format (stripped run)) (stripped run))
   where
-    at : (read : Option (List (List ℕ) × List ℕ)) → line_feeds (option_map_or (λ _. printed (stripped run) h) read run) ≡ 0
+    at : (read : Option (List (List ℕ) × List ℕ)) → line_feeds (option_map_or (λ _. concat (handed_in (stripped run) format)) read run) ≡ 0
     at None = none
-    at (Some read) = line_feeds-handed (stripped run) h most_bytes (omega (arith, none, line_feeds-stripped run))
+    at (Some read) = line_feeds-handed (stripped run) format (omega (arith, none, line_feeds-stripped run))
 
 -- run bytes are not line feeds
 pub line_feeds-run : (run : List ℕ) → list_all is_run_byte run ≡ true → line_feeds run ≡ 0
@@ -258,19 +293,19 @@ line_feeds-run (c ∷ run) all = at (line_feeds-run run) (is_run_byte c) refl al
     at following false is rest = absurd (true≢false (sym rest))
 
 -- a filtered line has as many line feeds as before
-line_feeds-filtered : (h : Bool) (skip : ℕ) (s : List ℕ) → line_feeds (filtered_by (replacement h) skip s) ≡ line_feeds (drop skip s)
+line_feeds-filtered : (format : Format) (skip : ℕ) (s : List ℕ) → line_feeds (filtered_by (replacement_in format) skip s) ≡ line_feeds (drop skip s)
 unfolding by_runs
-line_feeds-filtered h zero [] = refl
-line_feeds-filtered h (suc skip) [] = refl
-line_feeds-filtered h (suc skip) (c ∷ s) = line_feeds-filtered h skip s
-line_feeds-filtered h zero (c ∷ s) = elim (cases (starts_run (c ∷ s))) [
+line_feeds-filtered format zero [] = refl
+line_feeds-filtered format (suc skip) [] = refl
+line_feeds-filtered format (suc skip) (c ∷ s) = line_feeds-filtered format skip s
+line_feeds-filtered format zero (c ∷ s) = elim (cases (starts_run (c ∷ s))) [
   | inl some ↦
       let run = c ∷ take_while is_run_byte s in
       let n = prefix_len is_run_byte s in
       let clean : line_feeds run ≡ 0 = line_feeds-run run (ap (λ b. b && list_all is_run_byte (take_while is_run_byte s)) (ap is_run_byte (first_of_run (c ∷ s) some)) ∙ run_all s) in
       let whole : line_feeds (c ∷ s) ≡ line_feeds run + line_feeds (drop n s) = ap (λ l. line_feeds (c ∷ l)) (sym (take-append-drop n s)) ∙ line_feeds-append run (drop n s) in
-      ap (λ b. line_feeds (turn (replacement h) c s b)) some ∙ line_feeds-append (replacement h run) (filtered_by (replacement h) n s) ∙ omega (arith, whole, clean, line_feeds-replacement h run clean, line_feeds-filtered h n s)
-  | inr none ↦ ap (λ b. line_feeds (turn (replacement h) c s b)) none ∙ omega (arith, line_feeds-filtered h zero s)
+      ap (λ b. line_feeds (turn (replacement_in format) c s b)) some ∙ line_feeds-append (replacement_in format run) (filtered_by (replacement_in format) n s) ∙ omega (arith, whole, clean, line_feeds-replacement_in format run clean, line_feeds-filtered format n s)
+  | inr none ↦ ap (λ b. line_feeds (turn (replacement_in format) c s b)) none ∙ omega (arith, line_feeds-filtered format zero s)
 ]
 
 -- so do all lines
@@ -279,4 +314,4 @@ line_feeds-written h text = each (lines text) ∙ ap line_feeds (lines_join text
   where
     each : (parts : List (List ℕ)) → line_feeds (output_of h parts) ≡ line_feeds (concat parts)
     each [] = refl
-    each (line ∷ parts) = omega (arith, line_feeds-append (filtered h line) (output_of h parts), line_feeds-append line (concat parts), line_feeds-filtered h zero line, each parts)
+    each (line ∷ parts) = omega (arith, line_feeds-append (filtered h line) (output_of h parts), line_feeds-append line (concat parts), line_feeds-filtered (unfolded h most_bytes) zero line, each parts)

@@ -9,9 +9,8 @@ use Rattle.std.specs.List.{prefix_len, take_while, list_all, concat}
 use Rattle.std.proofs.lemmas.List.Folds.{list_all-append}
 use Rattle.rustc_demangle.specs.Lines.{lines, line_feeds, AreLines}
 use Rattle.rustc_demangle.specs.ByteStream.{SplitsNoCandidate}
-use Rattle.rustc_demangle.specs.Filtered.{is_run_byte, starts_run, HasNoStart, StartsOutsideRun, IsRun, replacement}
-use Rattle.rustc_demangle.specs.Symbols.{unfolded, most_bytes}
-use Rattle.rustc_demangle.specs.Rewritten.{before_of, before_after, starts_candidate, replacement_after, rewritten_by, rewritten, EndsSingle, EndsAlphanumeric, EndsOutside, IsReplacementAfter, AreRewritten, IsRewritten}
+use Rattle.rustc_demangle.specs.Filtered.{is_run_byte, starts_run, HasNoStart, StartsOutsideRun, IsRun, replacement_in}
+use Rattle.rustc_demangle.specs.Rewritten.{before_of, before_after, starts_candidate, replacement_after, rewritten_by, rewritten_in, EndsSingle, EndsAlphanumeric, EndsOutside, IsReplacementAfter, AreRewritten, IsRewritten}
 use Rattle.rustc_demangle.specs.declared.format.Format.{Format}
 use Rattle.rustc_demangle.specs.declared.byte_before.ByteBefore.{ByteBefore}
 use Rattle.rustc_demangle.specs.declared.byte_before.ByteBefore.TheVariants.{Outside, Alphanumeric, Mark}
@@ -22,7 +21,7 @@ use Rattle.rustc_demangle.proofs.SliceLemmas.{rewritten_all}
 use Rattle.rustc_demangle.proofs.LineDivision.{lines_join}
 use Rattle.demangle_laws.proofs.LineLaws.{only_lines}
 use Rattle.demangle_laws.proofs.LineFeeds.{line_feeds-append}
-use Rattle.demangle_laws.proofs.LineFeedLaws.{line_feeds-run, line_feeds-replacement}
+use Rattle.demangle_laws.proofs.LineFeedLaws.{line_feeds-run, line_feeds-replacement_in}
 use Rattle.demangle_laws.proofs.FilterLaws.{cases, shorter, none_in_none, no_start_append, replaced, stands, run_at}
 
 -- What the last byte of a text is for the text after it.
@@ -170,42 +169,39 @@ joined_single f kept run rest none is out =
 
 -- The relation determines the text.
 
-abbrev format : Bool → Format
-format hash = unfolded hash most_bytes
+other_replaced : (format : Format) (before : ByteBefore) (run : List ℕ) → (before ≡ Alphanumeric → ⊥) → replacement_after format before run ≡ replacement_in format run
+other_replaced format Outside run not = refl
+other_replaced format Alphanumeric run not = absurd (not refl)
+other_replaced format Mark run not = refl
 
-other_replaced : (hash : Bool) (before : ByteBefore) (run : List ℕ) → (before ≡ Alphanumeric → ⊥) → replacement_after (format hash) before run ≡ replacement hash run
-other_replaced hash Outside run not = refl
-other_replaced hash Alphanumeric run not = absurd (not refl)
-other_replaced hash Mark run not = refl
-
-pub plain_all : (hash : Bool) (text : List ℕ) → HasNoStart text → rewritten hash text ≡ text
-plain_all hash text none = rewritten_all (replacement_after (format hash)) text (λ k lt. none (take k text) (drop k text) (sym (take-append-drop k text)))
+pub plain_all : (format : Format) (text : List ℕ) → HasNoStart text → rewritten_in format text ≡ text
+plain_all format text none = rewritten_all (replacement_after format) text (λ k lt. none (take k text) (drop k text) (sym (take-append-drop k text)))
 
 -- one run, replaced
-one_only : (hash : Bool) (plain run rest kept text : List ℕ) → HasNoStart plain → IsRun run rest → IsReplacementAfter hash plain run kept text
-    → rewritten hash (plain ++ (run ++ rest)) ≡ kept ++ (text ++ rewritten hash rest)
-one_only hash plain run rest kept text none is (inl (ends, same, stays)) =
-    let f = replacement_after (format hash) in
+one_only : (format : Format) (plain run rest kept text : List ℕ) → HasNoStart plain → IsRun run rest → IsReplacementAfter format plain run kept text
+    → rewritten_in format (plain ++ (run ++ rest)) ≡ kept ++ (text ++ rewritten_in format rest)
+one_only format plain run rest kept text none is (inl (ends, same, stays)) =
+    let f = replacement_after format in
     let last : before_after Outside plain ≡ Alphanumeric = before_alphanumeric plain ends in
     joined_run f plain run rest none is (λ w. not_both plain w last)
-    ∙ ap (λ (b : ByteBefore). plain ++ (f b run ++ rewritten hash rest)) last
-    ∙ ap (λ l. l ++ (run ++ rewritten hash rest)) (sym same) ∙ ap (λ l. kept ++ (l ++ rewritten hash rest)) (sym stays)
-one_only hash plain run rest kept text none is (inr (inl (whole, ends, by))) =
-    let f = replacement_after (format hash) in
-    ap (λ l. rewritten hash (l ++ (run ++ rest))) whole
+    ∙ ap (λ (b : ByteBefore). plain ++ (f b run ++ rewritten_in format rest)) last
+    ∙ ap (λ l. l ++ (run ++ rewritten_in format rest)) (sym same) ∙ ap (λ l. kept ++ (l ++ rewritten_in format rest)) (sym stays)
+one_only format plain run rest kept text none is (inr (inl (whole, ends, by))) =
+    let f = replacement_after format in
+    ap (λ l. rewritten_in format (l ++ (run ++ rest))) whole
     ∙ joined_single f kept run rest (subst HasNoStart whole none) is (before_outside kept ends)
-    ∙ ap (λ l. kept ++ (l ++ rewritten hash rest)) (sym (stands hash (codes "_" ++ run) text by))
-one_only hash plain run rest kept text none is (inr (inr (not, single, same, by))) =
-    let f = replacement_after (format hash) in
+    ∙ ap (λ l. kept ++ (l ++ rewritten_in format rest)) (sym (stands format (codes "_" ++ run) text by))
+one_only format plain run rest kept text none is (inr (inr (not, single, same, by))) =
+    let f = replacement_after format in
     joined_run f plain run rest none is (λ w. single w.0 w.1 (outside_before w.0 w.2))
-    ∙ ap (λ l. plain ++ (l ++ rewritten hash rest)) (other_replaced hash (before_after Outside plain) run (λ e. not (alphanumeric_before plain e)))
-    ∙ ap (λ l. l ++ (replacement hash run ++ rewritten hash rest)) (sym same) ∙ ap (λ l. kept ++ (l ++ rewritten hash rest)) (sym (stands hash run text by))
+    ∙ ap (λ l. plain ++ (l ++ rewritten_in format rest)) (other_replaced format (before_after Outside plain) run (λ e. not (alphanumeric_before plain e)))
+    ∙ ap (λ l. l ++ (replacement_in format run ++ rewritten_in format rest)) (sym same) ∙ ap (λ l. kept ++ (l ++ rewritten_in format rest)) (sym (stands format run text by))
 
-only : (hash : Bool) (parts : List (List ℕ × List ℕ)) (text out : List ℕ) → AreRewritten hash parts text out → out ≡ rewritten hash text
-only hash [] text out (none, same) = same ∙ sym (plain_all hash text none)
-only hash ((plain, run) ∷ parts) text out (rest, kept, word, rest_out, whole, written, none, is, by, later) =
-    written ∙ ap (λ l. kept ++ (word ++ l)) (only hash parts rest rest_out later)
-    ∙ sym (one_only hash plain run rest kept word none is by) ∙ sym (ap (rewritten hash) whole)
+only : (format : Format) (parts : List (List ℕ × List ℕ)) (text out : List ℕ) → AreRewritten format parts text out → out ≡ rewritten_in format text
+only format [] text out (none, same) = same ∙ sym (plain_all format text none)
+only format ((plain, run) ∷ parts) text out (rest, kept, word, rest_out, whole, written, none, is, by, later) =
+    written ∙ ap (λ l. kept ++ (word ++ l)) (only format parts rest rest_out later)
+    ∙ sym (one_only format plain run rest kept word none is by) ∙ sym (ap (rewritten_in format) whole)
 
 -- Each text has such a division.
 
@@ -241,8 +237,8 @@ divide zero (c ∷ s) = elim (cases (starts_run (c ∷ s))) [
 ]
 
 -- the replacement of one run
-chosen : (hash : Bool) (plain run : List ℕ) → (kept : List ℕ) × (text : List ℕ) × IsReplacementAfter hash plain run kept text
-chosen hash plain run = at (is_single plain) (is_letter (before_after Outside plain))
+chosen : (format : Format) (plain run : List ℕ) → (kept : List ℕ) × (text : List ℕ) × IsReplacementAfter format plain run kept text
+chosen format plain run = at (is_single plain) (is_letter (before_after Outside plain))
   where
     is_letter : (b : ByteBefore) → (b ≡ Alphanumeric) ⊎ (b ≡ Alphanumeric → ⊥)
     is_letter Outside = inr outside_is_not
@@ -250,23 +246,23 @@ chosen hash plain run = at (is_single plain) (is_letter (before_after Outside pl
     is_letter Mark = inr mark_is_not
 
     at : EndsSingle Outside plain ⊎ (EndsSingle Outside plain → ⊥) → (before_after Outside plain ≡ Alphanumeric) ⊎ (before_after Outside plain ≡ Alphanumeric → ⊥)
-        → (kept : List ℕ) × (text : List ℕ) × IsReplacementAfter hash plain run kept text
-    at (inl (s, e, out)) l = (s, replacement hash (codes "_" ++ run), inr (inl (e, outside_before s out, replaced hash (codes "_" ++ run))))
+        → (kept : List ℕ) × (text : List ℕ) × IsReplacementAfter format plain run kept text
+    at (inl (s, e, out)) l = (s, replacement_in format (codes "_" ++ run), inr (inl (e, outside_before s out, replaced format (codes "_" ++ run))))
     at (inr not) (inl is) = (plain, run, inl (alphanumeric_before plain is, refl, refl))
     at (inr not) (inr other) =
-        (plain, replacement hash run, inr (inr (λ w. other (before_alphanumeric plain w), λ s e w. not (s, e, before_outside s w), refl, replaced hash run)))
+        (plain, replacement_in format run, inr (inr (λ w. other (before_alphanumeric plain w), λ s e w. not (s, e, before_outside s w), refl, replaced format run)))
 
-built : (hash : Bool) (parts : List (List ℕ × List ℕ)) (text : List ℕ) → IsDivided parts text → AreRewritten hash parts text (rewritten hash text)
-built hash [] text none = (none, plain_all hash text none)
-built hash ((plain, run) ∷ parts) text (rest, whole, none, is, later) =
-    let w = chosen hash plain run in
-    (rest, w.0, w.1, rewritten hash rest, whole, ap (rewritten hash) whole ∙ one_only hash plain run rest w.0 w.1 none is w.2, none, is, w.2, built hash parts rest later)
+built : (format : Format) (parts : List (List ℕ × List ℕ)) (text : List ℕ) → IsDivided parts text → AreRewritten format parts text (rewritten_in format text)
+built format [] text none = (none, plain_all format text none)
+built format ((plain, run) ∷ parts) text (rest, whole, none, is, later) =
+    let w = chosen format plain run in
+    (rest, w.0, w.1, rewritten_in format rest, whole, ap (rewritten_in format) whole ∙ one_only format plain run rest w.0 w.1 none is w.2, none, is, w.2, built format parts rest later)
 
 -- the computed text is that of the division, and no other text is
-pub rewritten_is : (hash : Bool) (text out : List ℕ) → ((out ≡ rewritten hash text) → IsRewritten hash text out) × (IsRewritten hash text out → out ≡ rewritten hash text)
-rewritten_is hash text out = (
-  λ e. let d = divide zero text in (d.0, subst (AreRewritten hash d.0 text) (sym e) (built hash d.0 text d.1)),
-  λ w. only hash w.0 text out w.1,
+pub rewritten_is : (format : Format) (text out : List ℕ) → ((out ≡ rewritten_in format text) → IsRewritten format text out) × (IsRewritten format text out → out ≡ rewritten_in format text)
+rewritten_is format text out = (
+  λ e. let d = divide zero text in (d.0, subst (AreRewritten format d.0 text) (sym e) (built format d.0 text d.1)),
+  λ w. only format w.0 text out w.1,
 )
 
 -- Rewriting in parts.
@@ -290,45 +286,45 @@ divided_anew f prefix rest c other =
     ∙ ap (λ (b : ByteBefore). rewritten_by f zero Outside (prefix ++ c ∷ []) ++ rewritten_by f zero b rest) (before_after-append Outside prefix (c ∷ []) ∙ of_outside c other)
 
 -- rewritten bytes are their lines, each rewritten
-pub rewritten_lines : (hash : Bool) (text : List ℕ) → rewritten hash text ≡ flat_map (rewritten hash) (lines text)
-rewritten_lines hash text = ap (rewritten hash) (sym (lines_join text)) ∙ each (lines text) (only_lines text).are
+pub rewritten_lines : (format : Format) (text : List ℕ) → rewritten_in format text ≡ flat_map (rewritten_in format) (lines text)
+rewritten_lines format text = ap (rewritten_in format) (sym (lines_join text)) ∙ each (lines text) (only_lines text).are
   where
     f : ByteBefore → List ℕ → List ℕ
-    f = replacement_after (format hash)
+    f = replacement_after format
 
-    each : (parts : List (List ℕ)) → AreLines parts → rewritten hash (concat parts) ≡ flat_map (rewritten hash) parts
+    each : (parts : List (List ℕ)) → AreLines parts → rewritten_in format (concat parts) ≡ flat_map (rewritten_in format) parts
     each [] are = rewritten_nothing f Outside zero
-    each (line ∷ []) are = ap (rewritten hash) (append-nil line) ∙ sym (append-nil (rewritten hash line))
+    each (line ∷ []) are = ap (rewritten_in format) (append-nil line) ∙ sym (append-nil (rewritten_in format line))
     each (line ∷ next ∷ rest) are =
         let end = are.0 in
-        ap (λ l. rewritten hash (l ++ concat (next ∷ rest))) end.1
-        ∙ ap (rewritten hash) (append_assoc end.0 (10 ∷ []) (concat (next ∷ rest)))
+        ap (λ l. rewritten_in format (l ++ concat (next ∷ rest))) end.1
+        ∙ ap (rewritten_in format) (append_assoc end.0 (10 ∷ []) (concat (next ∷ rest)))
         ∙ divided_anew f end.0 (concat (next ∷ rest)) 10 refl
-        ∙ ap (λ l. rewritten hash l ++ rewritten hash (concat (next ∷ rest))) (sym end.1)
-        ∙ ap (λ l. rewritten hash line ++ l) (each (next ∷ rest) are.1)
+        ∙ ap (λ l. rewritten_in format l ++ rewritten_in format (concat (next ∷ rest))) (sym end.1)
+        ∙ ap (λ l. rewritten_in format line ++ l) (each (next ∷ rest) are.1)
 
 -- they have as many line feeds as before
-line_feeds-after : (hash : Bool) (before : ByteBefore) (run : List ℕ) → line_feeds run ≡ 0 → line_feeds (replacement_after (format hash) before run) ≡ 0
-line_feeds-after hash Outside run none = line_feeds-replacement hash run none
-line_feeds-after hash Alphanumeric run none = none
-line_feeds-after hash Mark run none = line_feeds-replacement hash run none
+line_feeds-after : (format : Format) (before : ByteBefore) (run : List ℕ) → line_feeds run ≡ 0 → line_feeds (replacement_after format before run) ≡ 0
+line_feeds-after format Outside run none = line_feeds-replacement_in format run none
+line_feeds-after format Alphanumeric run none = none
+line_feeds-after format Mark run none = line_feeds-replacement_in format run none
 
-line_feeds-from : (hash : Bool) (skip : ℕ) (before : ByteBefore) (s : List ℕ) → line_feeds (rewritten_by (replacement_after (format hash)) skip before s) ≡ line_feeds (drop skip s)
+line_feeds-from : (format : Format) (skip : ℕ) (before : ByteBefore) (s : List ℕ) → line_feeds (rewritten_by (replacement_after format) skip before s) ≡ line_feeds (drop skip s)
 unfolding rewritten_by
-line_feeds-from hash zero before [] = refl
-line_feeds-from hash (suc skip) before [] = refl
-line_feeds-from hash (suc skip) before (c ∷ s) = line_feeds-from hash skip (before_of c) s
-line_feeds-from hash zero before (c ∷ s) = elim (cases (starts_candidate before (c ∷ s))) [
+line_feeds-from format zero before [] = refl
+line_feeds-from format (suc skip) before [] = refl
+line_feeds-from format (suc skip) before (c ∷ s) = line_feeds-from format skip (before_of c) s
+line_feeds-from format zero before (c ∷ s) = elim (cases (starts_candidate before (c ∷ s))) [
   | inl some ↦
-      let f = replacement_after (format hash) in
+      let f = replacement_after format in
       let run = c ∷ take_while is_run_byte s in
       let n = prefix_len is_run_byte s in
       let clean : line_feeds run ≡ 0 = line_feeds-run run (ap (λ b. b && list_all is_run_byte (take_while is_run_byte s)) (ap is_run_byte (first_of_candidate before (c ∷ s) some)) ∙ all_prefix s) in
       let whole : line_feeds (c ∷ s) ≡ line_feeds run + line_feeds (drop n s) = ap (λ l. line_feeds (c ∷ l)) (sym (take-append-drop n s)) ∙ line_feeds-append run (drop n s) in
       ap (λ b. line_feeds (candidate_turn f before c s b)) some ∙ line_feeds-append (f before run) (rewritten_by f n (before_of c) s)
-      ∙ omega (arith, whole, clean, line_feeds-after hash before run clean, line_feeds-from hash n (before_of c) s)
-  | inr none ↦ ap (λ b. line_feeds (candidate_turn (replacement_after (format hash)) before c s b)) none ∙ omega (arith, line_feeds-from hash zero (before_of c) s)
+      ∙ omega (arith, whole, clean, line_feeds-after format before run clean, line_feeds-from format n (before_of c) s)
+  | inr none ↦ ap (λ b. line_feeds (candidate_turn (replacement_after format) before c s b)) none ∙ omega (arith, line_feeds-from format zero (before_of c) s)
 ]
 
-pub line_feeds-rewritten : (hash : Bool) (text : List ℕ) → line_feeds (rewritten hash text) ≡ line_feeds text
-line_feeds-rewritten hash text = line_feeds-from hash zero Outside text
+pub line_feeds-rewritten : (format : Format) (text : List ℕ) → line_feeds (rewritten_in format text) ≡ line_feeds text
+line_feeds-rewritten format text = line_feeds-from format zero Outside text

@@ -6,18 +6,18 @@ use Rattle.demangle_legacy.specs.Legacy.{IsLegacy, IsLegacyPrefix}
 use Rattle.rustc_demangle.specs.Shape.{LimitedForm, path_texts, legacy_pieces}
 use Rattle.rustc_demangle.specs.Stripped.{is_allowed}
 use Rattle.rustc_demangle.specs.Filtered.{starts_run}
-use Rattle.rustc_demangle.specs.Symbols.{IsSymbol, form_of, pieces_in, handed_in, kept_in}
+use Rattle.rustc_demangle.specs.Symbols.{IsSymbol, form_in, limit_in, pieces_in, handed_in, kept_in}
 use Rattle.rustc_demangle.specs.declared.format.Format.{Format}
 use Rattle.demangle_v0_grammar.specs.V0.{IsV0, IsV0Prefix}
 use Rattle.demangle_legacy.proofs.LegacyLaws.{legacy_spelled}
 use Rattle.rustc_demangle.proofs.SymbolLemmas.{no_legacy, pieces-legacy, pieces-v0, none≢some}
 use Rattle.demangle_v0_grammar.proofs.V0Reading.{v0_is_read}
 
-handed_of : (text : List ℕ) (format : Format) (read : List (List ℕ) × List ℕ) → pieces_in (form_of format) text ≡ Some read → handed_in text format ≡ cut read.0 format.limit ++ read.1 ∷ []
-handed_of text format read e = ap (λ o. option_map_or (λ (r : List (List ℕ) × List ℕ). cut r.0 format.limit ++ r.1 ∷ []) o (text ∷ [])) e
+handed_of : (text : List ℕ) (format : Format) (read : List (List ℕ) × List ℕ) → pieces_in (form_in format text) text ≡ Some read → handed_in text format ≡ cut read.0 (limit_in format text) ++ read.1 ∷ []
+handed_of text format read e = ap (λ o. option_map_or (λ (r : List (List ℕ) × List ℕ). cut r.0 (limit_in format text) ++ r.1 ∷ []) o (text ∷ [])) e
 
-kept_by : (text : List ℕ) (format : Format) (read : List (List ℕ) × List ℕ) → pieces_in (form_of format) text ≡ Some read → kept_in text format ≡ kept read.0 format.limit
-kept_by text format read e = ap (λ o. option_map_or (λ (r : List (List ℕ) × List ℕ). kept r.0 format.limit) o 0) e
+kept_by : (text : List ℕ) (format : Format) (read : List (List ℕ) × List ℕ) → pieces_in (form_in format text) text ≡ Some read → kept_in text format ≡ kept read.0 (limit_in format text)
+kept_by text format read e = ap (λ o. option_map_or (λ (r : List (List ℕ) × List ℕ). kept r.0 (limit_in format text)) o 0) e
 
 pieces_spelled : (form : LimitedForm) (text : List ℕ) (elements : List (List ℕ)) (suffix : List ℕ) → IsLegacy text elements suffix → is_allowed suffix ≡ true
     → pieces_in form text ≡ Some (legacy_pieces form elements, suffix)
@@ -28,24 +28,24 @@ pieces_rendered : (form : LimitedForm) (text inner suffix : List ℕ) → IsV0 t
 pieces_rendered form text inner suffix is allowed = pieces-v0 form text inner suffix (v0_is_read text inner suffix is) allowed
 
 pub legacy-handed : (text : List ℕ) (elements : List (List ℕ)) (suffix : List ℕ) (format : Format) → IsLegacy text elements suffix → is_allowed suffix ≡ true
-    → handed_in text format ≡ cut (legacy_pieces (form_of format) elements) format.limit ++ suffix ∷ []
+    → handed_in text format ≡ cut (legacy_pieces (form_in format text) elements) (limit_in format text) ++ suffix ∷ []
 legacy-handed text elements suffix format is allowed =
-    handed_of text format (legacy_pieces (form_of format) elements, suffix) (pieces_spelled (form_of format) text elements suffix is allowed)
+    handed_of text format (legacy_pieces (form_in format text) elements, suffix) (pieces_spelled (form_in format text) text elements suffix is allowed)
 
 pub legacy-kept : (text : List ℕ) (elements : List (List ℕ)) (suffix : List ℕ) (format : Format) → IsLegacy text elements suffix → is_allowed suffix ≡ true
-    → kept_in text format ≡ kept (legacy_pieces (form_of format) elements) format.limit
+    → kept_in text format ≡ kept (legacy_pieces (form_in format text) elements) (limit_in format text)
 legacy-kept text elements suffix format is allowed =
-    kept_by text format (legacy_pieces (form_of format) elements, suffix) (pieces_spelled (form_of format) text elements suffix is allowed)
+    kept_by text format (legacy_pieces (form_in format text) elements, suffix) (pieces_spelled (form_in format text) text elements suffix is allowed)
 
 pub v0-handed : (text inner suffix : List ℕ) (format : Format) → IsV0 text inner suffix → is_allowed suffix ≡ true
-    → handed_in text format ≡ cut (path_texts inner (form_of format)) format.limit ++ suffix ∷ []
+    → handed_in text format ≡ cut (path_texts inner (form_in format text)) (limit_in format text) ++ suffix ∷ []
 v0-handed text inner suffix format is allowed =
-    handed_of text format (path_texts inner (form_of format), suffix) (pieces_rendered (form_of format) text inner suffix is allowed)
+    handed_of text format (path_texts inner (form_in format text), suffix) (pieces_rendered (form_in format text) text inner suffix is allowed)
 
 pub v0-kept : (text inner suffix : List ℕ) (format : Format) → IsV0 text inner suffix → is_allowed suffix ≡ true
-    → kept_in text format ≡ kept (path_texts inner (form_of format)) format.limit
+    → kept_in text format ≡ kept (path_texts inner (form_in format text)) (limit_in format text)
 v0-kept text inner suffix format is allowed =
-    kept_by text format (path_texts inner (form_of format), suffix) (pieces_rendered (form_of format) text inner suffix is allowed)
+    kept_by text format (path_texts inner (form_in format text), suffix) (pieces_rendered (form_in format text) text inner suffix is allowed)
 
 pub one-scheme : (text : List ℕ) (elements : List (List ℕ)) (inner suffix other : List ℕ) → IsLegacy text elements suffix → IsV0 text inner other → ⊥
 one-scheme text elements inner suffix other legacy v0 =

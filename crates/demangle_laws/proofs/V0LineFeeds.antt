@@ -4,7 +4,7 @@ use Rattle.std.specs.List.{concat}
 use Rattle.rustc_demangle.specs.Lines.{line_feeds}
 use Rattle.demangle_v0_grammar.specs.Items.{Kind, a_path}
 use Rattle.demangle_v0_grammar.specs.Table.{items}
-use Rattle.demangle_v0_grammar.specs.Reading.{form, Level, Context, parse, nowhere, level_of, levels, max_depth, read_at, path_texts}
+use Rattle.demangle_v0_grammar.specs.Reading.{Form, Level, Context, parse, nowhere, level_of, levels, max_depth, read_at, path_texts}
 use Rattle.demangle_laws.proofs.ItemLineFeeds.{IsClear, clear_pieces, LevelClear, LevelsClear, clear}
 use Rattle.demangle_laws.proofs.TableLineFeeds.{items_clear}
 
@@ -31,6 +31,6 @@ unfolding read_at
 read_clear symbol folds printed kind i depth lifetimes value none =
     level_clear symbol folds (levels symbol folds (max_depth - depth)) none (levels_clear symbol folds (max_depth - depth) none) printed kind value lifetimes i
 
-pub line_feeds-rendered : (inner : List ℕ) (hash : Bool) → line_feeds inner ≡ 0 → line_feeds (concat (path_texts inner (form hash false))) ≡ 0
+pub line_feeds-rendered : (inner : List ℕ) (form : Form) → line_feeds inner ≡ 0 → line_feeds (concat (path_texts inner form)) ≡ 0
 unfolding path_texts
-line_feeds-rendered inner hash none = clear_pieces hash (read_at inner false true a_path 0 0 0 true).tree (read_clear inner false true a_path 0 0 0 true none)
+line_feeds-rendered inner form none = clear_pieces form.include_hash (read_at inner form.fold_arguments true a_path 0 0 0 true).tree (read_clear inner form.fold_arguments true a_path 0 0 0 true none)

@@ -7,7 +7,8 @@ ghost use Rattle.rustc_demangle.specs.Shape.{form, legacy_pieces};
 ghost use Rattle.rustc_demangle.specs.Hashes.{OmitsHash};
 ghost use Rattle.demangle_legacy.specs.Legacy.{IsLegacy};
 ghost use Rattle.rustc_demangle.specs.Stripped.{stripped, is_thin_lto, is_allowed, IsCut};
-ghost use Rattle.rustc_demangle.specs.Symbols.{IsSymbol, handed, kept_of, most_bytes, pieces_of, printed};
+ghost use Rattle.rustc_demangle.specs.Limits.{most_bytes};
+ghost use Rattle.rustc_demangle.specs.Symbols.{IsSymbol, handed, kept_of, pieces_of, printed};
 
 use demangle_sink::{ArraySink, SinkRefused, TextSink};
 use rustc_demangle::Demangle;

@@ -5,7 +5,7 @@ ghost use Rattle.demangle_legacy.specs.Legacy.{IsLegacy};
 ghost use Rattle.rustc_demangle.specs.Shape.{form, path_texts, legacy_pieces};
 ghost use Rattle.rustc_demangle.specs.Stripped.{is_allowed};
 ghost use Rattle.rustc_demangle.specs.Filtered.{starts_run};
-ghost use Rattle.rustc_demangle.specs.Symbols.{form_of, handed, handed_in, kept_of, IsSymbol};
+ghost use Rattle.rustc_demangle.specs.Symbols.{form_in, limit_in, handed, handed_in, kept_of, IsSymbol};
 ghost use Rattle.rustc_demangle.specs.declared.format.Format.{Format};
 ghost use Rattle.demangle_v0_grammar.specs.V0.{IsV0};
 
@@ -37,11 +37,11 @@ pub fn each_format_prints_the_same_symbols()
     ensures legacy { (text : List ℕ) → (elements : List (List ℕ)) → (suffix : List ℕ) →
         (format : Format) → IsLegacy text elements suffix → is_allowed suffix ≡ true →
         handed_in text format
-        ≡ cut (legacy_pieces (form_of format) elements) format.limit ++ suffix ∷ [] }
+        ≡ cut (legacy_pieces (form_in format text) elements) (limit_in format text) ++ suffix ∷ [] }
     ensures v0 { (text inner suffix : List ℕ) → (format : Format) →
         IsV0 text inner suffix → is_allowed suffix ≡ true →
         handed_in text format
-        ≡ cut (path_texts inner (form_of format)) format.limit ++ suffix ∷ [] }
+        ≡ cut (path_texts inner (form_in format text)) (limit_in format text) ++ suffix ∷ [] }
 {}
 
 /// No text is a symbol of both schemes.

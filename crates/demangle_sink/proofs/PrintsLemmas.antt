@@ -1,14 +1,15 @@
 -- One piece printed under a limit, and lists of pieces in sequence.
-use Rattle.std.proofs.Common.{◌≡◌, ℕ, ◌-◌, ◌≤◌, ◌<◌, List, [], ◌∷◌, ◌++◌, length, Bool, true, false, Option, Result, Ok, Err, IsOk, IsErr, refl, sym, ap, ◌∙◌, arith, inl, inr}
+use Rattle.std.proofs.Common.{◌≡◌, ℕ, ◌-◌, ◌≤◌, ◌<◌, List, [], ◌∷◌, ◌++◌, length, Bool, true, false, Result, Ok, Err, IsOk, IsErr, refl, sym, ap, ◌∙◌, arith, inl, inr}
 use Rattle.std.proofs.lemmas.Bool.{false≢true, true≢false, le-leb}
 use Rattle.std.proofs.lemmas.Bool.Decides.{leb_tells}
 use Rattle.demangle_sink.specs.declared.TextSink.{Ghosts}
 use Rattle.demangle_sink.specs.declared.SinkRefused.{SinkRefused}
+use Rattle.demangle_sink.specs.declared.limit.Reread.{Reread}
 use Rattle.demangle_sink.specs.declared.limit.SizeLimitedFmtAdapter.{SizeLimitedFmtAdapter}
 use Rattle.demangle_sink.specs.Cut.{size, prefix_within, cut, cut_up_to, marker}
 use Rattle.demangle_sink.specs.PutsPieces.{PutsPieces}
 use Rattle.demangle_sink.specs.Limit.{Ready, Prints, Follows, PrintsUpTo, sink_result}
-use Rattle.demangle_sink.proofs.CutLemmas.{size-append, fitting-all, fitting-append, fitting-stop, fitting-more, fitting-none}
+use Rattle.demangle_sink.proofs.CutLemmas.{size-append, fitting-all, fitting-append, fitting-stop, fitting-more}
 use Rattle.demangle_sink.proofs.PutsPiecesLemmas.{puts_nothing, puts_then, puts_stop}
 
 -- for a piece within the limit, the sink determines the result
@@ -16,15 +17,15 @@ pub prints_put : {S : Type 0} (sink : Ghosts S) (old : SizeLimitedFmtAdapter S) 
     → new.out.ghost_name ≡ old.out.ghost_name
     → length s ≤ old.remaining
     → new.remaining ≡ old.remaining - length s
-    → new.references ≡ old.references
+    → new.reread ≡ old.reread
     → new.is_limit_reached ≡ false
     → PutsPieces sink old.out.now (s ∷ []) result new.out.now
     → Prints sink old (s ∷ []) result new
-prints_put sink old s result new same h left references here hands =
+prints_put sink old s result new same h left reread here hands =
     let fit : prefix_within (s ∷ []) old.remaining ≡ s ∷ [] = fitting-all (s ∷ []) old.remaining (omega arith) in
     record {
       same_sink = same;
-      references = references;
+      reread = reread;
       open_ = λ _. here;
       within = λ _. omega arith;
       left = λ _. omega arith;
@@ -43,7 +44,7 @@ prints_ready sink old xs r new p ok =
 pub prints_nothing : {S : Type 0} (sink : Ghosts S) (out : SizeLimitedFmtAdapter S) → Ready sink out → Prints sink out [] (Ok tt) out
 prints_nothing sink out h = record {
   same_sink = refl;
-  references = refl;
+  reread = refl;
   open_ = λ _. h.fresh;
   within = λ _. omega arith;
   left = λ _. omega arith;
@@ -64,7 +65,7 @@ prints_then sink old mid new xs ys r result first ok second =
     let h' : PutsPieces sink old.out.now xs r mid.out.now = rw (fitting-all xs old.remaining here) at h in
     record {
       same_sink = second.same_sink ∙ first.same_sink;
-      references = second.references ∙ first.references;
+      reread = second.reread ∙ first.reread;
       open_ = second.open_;
       within = λ e. let w : size ys ≤ mid.remaining = second.within e in omega (arith, size-append xs ys);
       left = λ e. let w : size ys ≤ mid.remaining = second.within e in let v : new.remaining ≡ mid.remaining - size ys = second.left e in omega (arith, size-append xs ys);
@@ -79,7 +80,7 @@ pub prints_stop : {S : Type 0} (sink : Ghosts S) (old new : SizeLimitedFmtAdapte
 prints_stop sink old new xs ys r (Ok u) p err err' = absurd (false≢true err')
 prints_stop sink old new xs ys r (Err u) p err err' = record {
   same_sink = p.same_sink;
-  references = p.references;
+  reread = p.reread;
   open_ = λ e. absurd (false≢true e);
   within = λ e. absurd (false≢true e);
   left = λ e. absurd (false≢true e);
@@ -95,21 +96,21 @@ prints_stop sink old new xs ys r (Err u) p err err' = record {
       let more = fitting-more xs ys old.remaining in
       rw (more.1, e) (puts_stop sink _ _ _ more.0 r (Err u) h err refl)
 
--- the same for any number of references that may be followed
-pub prints_anyway : {S : Type 0} (sink : Ghosts S) (old new : SizeLimitedFmtAdapter S) (xs : List (List ℕ)) (r : Result (Unit {0}) SinkRefused) (k : Option ℕ)
-    → Prints sink old xs r new → Prints sink (record old { references = k }) xs r (record new { references = k })
-prints_anyway sink old new xs r k p = record { same_sink = p.same_sink; references = refl; open_ = p.open_; within = p.within; left = p.left; past = p.past; hands = p.hands }
+-- the same for any number of bytes that may be read again
+pub prints_anyway : {S : Type 0} (sink : Ghosts S) (old new : SizeLimitedFmtAdapter S) (xs : List (List ℕ)) (r : Result (Unit {0}) SinkRefused) (k : Reread)
+    → Prints sink old xs r new → Prints sink (record old { reread = k }) xs r (record new { reread = k })
+prints_anyway sink old new xs r k p = record { same_sink = p.same_sink; reread = refl; open_ = p.open_; within = p.within; left = p.left; past = p.past; hands = p.hands }
 
 -- a text for which no reference is followed
 pub prints_whole : {S : Type 0} (sink : Ghosts S) (old new : SizeLimitedFmtAdapter S) (xs : List (List ℕ)) (r : Result (Unit {0}) SinkRefused)
     → Prints sink old xs r new → PrintsUpTo sink old xs true r new
-prints_whole sink old new xs r p = prints_anyway sink old new xs r old.references p
+prints_whole sink old new xs r p = prints_anyway sink old new xs r old.reread p
 
 -- after these pieces a reference may not be followed
-pub prints_short : {S : Type 0} (sink : Ghosts S) (old mid new : SizeLimitedFmtAdapter S) (xs : List (List ℕ)) (e : SinkRefused)
-    → Prints sink old xs (Ok tt) (record mid { references = old.references }) → Follows mid (Err e) new → (result : Result (Unit {0}) SinkRefused) → IsErr result
+pub prints_short : {S : Type 0} (sink : Ghosts S) (old mid new : SizeLimitedFmtAdapter S) (xs : List (List ℕ)) (n : ℕ) (e : SinkRefused)
+    → Prints sink old xs (Ok tt) (record mid { reread = old.reread }) → Follows mid n (Err e) new → (result : Result (Unit {0}) SinkRefused) → IsErr result
     → PrintsUpTo sink old xs false result new
-prints_short sink old mid new xs e p f result err = rw f.1 (record {
+prints_short sink old mid new xs n e p f result err = rw f.1 (record {
   same_sink = p.same_sink;
   refused = err;
   hands = let here : mid.is_limit_reached ≡ false = p.open_ refl in rw here at p.hands;
@@ -117,11 +118,11 @@ prints_short sink old mid new xs e p f result err = rw f.1 (record {
 
 -- a piece was rejected, so nothing after it was put, nor was a reference followed
 pub prints_rejected : {S : Type 0} (sink : Ghosts S) (old new : SizeLimitedFmtAdapter S) (xs ys : List (List ℕ)) (is_whole : Bool) (r result : Result (Unit {0}) SinkRefused)
-    → Prints sink old xs r (record new { references = old.references }) → IsErr r → IsErr result
+    → Prints sink old xs r (record new { reread = old.reread }) → IsErr r → IsErr result
     → PrintsUpTo sink old (xs ++ ys) is_whole result new
-prints_rejected sink old new xs ys true r result p err err' = prints_stop sink old (record new { references = old.references }) xs ys r result p err err'
+prints_rejected sink old new xs ys true r result p err err' = prints_stop sink old (record new { reread = old.reread }) xs ys r result p err err'
 prints_rejected sink old new xs ys false r result p err err' =
-    let all = prints_stop sink old (record new { references = old.references }) xs ys r result p err err' in
+    let all = prints_stop sink old (record new { reread = old.reread }) xs ys r result p err err' in
     record { same_sink = all.same_sink; refused = err'; hands = all.hands }
 
 pub cut-past : (xs : List (List ℕ)) (l : ℕ) → l < size xs → cut xs l ≡ prefix_within xs l ++ marker ∷ []
@@ -159,14 +160,14 @@ prints_cut_all sink old new start after limit xs r at lim p over same =
       | inr e ↦ rw (cut-past xs limit e.1) (puts_stop sink _ _ _ (marker ∷ []) (Err u) (Err u) h refl refl)
     ]
 
--- The same for a text up to a limit of references.
+-- The same for a text up to a limit of what is read again.
 
 pub cut_over : {S : Type 0} (sink : Ghosts S) (old new : SizeLimitedFmtAdapter S) (start mid after : S) (limit : ℕ) (xs : List (List ℕ)) (is_whole : Bool) (r result : Result (Unit {0}) SinkRefused)
     → old.out.now ≡ start → old.remaining ≡ limit
     → PrintsUpTo sink old xs is_whole r new → new.is_limit_reached ≡ true → mid ≡ new.out.now
     → PutsPieces sink mid (marker ∷ []) result after
     → PutsPieces sink start (cut_up_to xs is_whole limit) result after
-cut_over sink old new start mid after limit xs true r result at lim p over same hands = prints_cut_over sink old (record new { references = old.references }) start mid after limit xs r result at lim p over same hands
+cut_over sink old new start mid after limit xs true r result at lim p over same hands = prints_cut_over sink old (record new { reread = old.reread }) start mid after limit xs r result at lim p over same hands
 cut_over sink old new start mid after limit xs false r result at lim p over same hands =
     let h : PutsPieces sink old.out.now (prefix_within xs old.remaining) (Ok tt) new.out.now = rw over at p.hands in
     let h' : PutsPieces sink start (prefix_within xs limit) (Ok tt) mid = rw (same, ← at, ← lim) h in
@@ -176,7 +177,7 @@ pub cut_all : {S : Type 0} (sink : Ghosts S) (old new : SizeLimitedFmtAdapter S)
     → old.out.now ≡ start → old.remaining ≡ limit
     → PrintsUpTo sink old xs is_whole r new → new.is_limit_reached ≡ false → after ≡ new.out.now
     → PutsPieces sink start (cut_up_to xs is_whole limit) r after
-cut_all sink old new start after limit xs true r at lim p over same = prints_cut_all sink old (record new { references = old.references }) start after limit xs r at lim p over same
+cut_all sink old new start after limit xs true r at lim p over same = prints_cut_all sink old (record new { reread = old.reread }) start after limit xs r at lim p over same
 cut_all sink old new start after limit xs false (Ok u) at lim p over same = absurd (false≢true p.refused)
 cut_all sink old new start after limit xs false (Err u) at lim p over same =
     let h : PutsPieces sink old.out.now (prefix_within xs old.remaining) (Err u) new.out.now = rw over at p.hands in

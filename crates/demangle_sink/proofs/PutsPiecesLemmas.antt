@@ -7,7 +7,7 @@ use Rattle.demangle_sink.specs.declared.TextSink.{Ghosts}
 use Rattle.demangle_sink.specs.declared.SinkRefused.{SinkRefused}
 use Rattle.demangle_sink.specs.Sink.{IsWithin, room_after}
 use Rattle.demangle_sink.specs.Cut.{size}
-use Rattle.demangle_sink.specs.PutsPieces.{FailedWithin, FitsRoom, PutsPieces, HoldsPrefix}
+use Rattle.demangle_sink.specs.PutsPieces.{FitsRoom, PutsPieces, HoldsPrefix}
 use Rattle.demangle_sink.proofs.CutLemmas.{size-append}
 
 fits-first : (a b : ℕ) (r : Option ℕ) → IsWithin (a + b) r → IsWithin a r

@@ -1,8 +1,9 @@
 -- Internal: no public contract cites this.
 -- The progress of printing a list.
-use Rattle.std.specs.Prelude.{Bool, Err, IsErr, IsOk, List, None, Ok, Option, Result, Some, false, map, true, ℕ, ◌++◌, ◌-◌, ◌<◌, ◌≡◌, ◌≤◌}
+use Rattle.std.specs.Prelude.{Bool, Err, IsErr, IsOk, List, None, Ok, Option, Result, Some, false, map, true, ℕ, ◌++◌, ◌+◌, ◌-◌, ◌<◌, ◌≡◌, ◌≤◌}
 use Rattle.demangle_sink.specs.declared.TextSink.{Ghosts}
 use Rattle.demangle_sink.specs.declared.SinkRefused.{SinkRefused}
+use Rattle.demangle_sink.specs.declared.limit.Reread.{Reread}
 use Rattle.demangle_sink.specs.declared.limit.SizeLimitedFmtAdapter.{SizeLimitedFmtAdapter}
 use Rattle.demangle_sink.specs.Cut.{prefix_within, size}
 use Rattle.demangle_sink.specs.PutsPieces.{PutsPieces}
@@ -22,33 +23,53 @@ sink_result false result = result
 -- that the sink rejected one. The pieces within the limit were put into the sink.
 pub record Prints {S : Type 0} (sink : Ghosts S) (old : SizeLimitedFmtAdapter S) (pieces : List (List ℕ)) (result : Result (Unit {0}) SinkRefused) (new : SizeLimitedFmtAdapter S) : Type 0 where
   pub same_sink : new.out.ghost_name ≡ old.out.ghost_name
-  pub references : new.references ≡ old.references
+  pub reread : new.reread ≡ old.reread
   pub open_ : IsOk result → new.is_limit_reached ≡ false
   pub within : IsOk result → size pieces ≤ old.remaining
   pub left : IsOk result → new.remaining ≡ old.remaining - size pieces
   pub past : new.is_limit_reached ≡ true → old.remaining < size pieces
   pub hands : PutsPieces sink old.out.now (prefix_within pieces old.remaining) (sink_result new.is_limit_reached result) new.out.now
 
-abbrev pub one_less : Option ℕ → Option ℕ
-one_less None = None
-one_less (Some k) = Some (k - 1)
+-- this many bytes may be read again, and none was
+abbrev pub unused : Option ℕ → Reread
+unused most = record { most = most; used = 0 }
 
--- Following a reference returned `result`. `Err` means that as many were followed as are allowed.
-abbrev pub Follows : {S : Type 0} → SizeLimitedFmtAdapter S → Result (Unit {0}) SinkRefused → SizeLimitedFmtAdapter S → Type 0
-Follows old (Ok u) new = (old.references ≡ Some 0 → ⊥) × (new ≡ record old { references = one_less old.references })
-Follows old (Err e) new = (old.references ≡ Some 0) × (new ≡ record old { is_limit_reached = true })
+-- n bytes are more than may be read again
+abbrev pub IsOver : (most : Option ℕ) → (n : ℕ) → Type 0
+IsOver None n = ⊥
+IsOver (Some k) n = k < n
 
--- Printing these pieces returned `result`. They are not the whole text: after them as many references were followed as
--- are allowed.
+-- the used bytes and n more, if their number is limited
+abbrev pub used_with : (most : Option ℕ) → (used n : ℕ) → ℕ
+used_with None used n = used
+used_with (Some k) used n = used + n
+
+-- Following a reference that may make the parser read n bytes again returned `result`. `Err` means that they are too
+-- many.
+abbrev pub Follows : {S : Type 0} → SizeLimitedFmtAdapter S → (n : ℕ) → Result (Unit {0}) SinkRefused → SizeLimitedFmtAdapter S → Type 0
+Follows old n (Ok u) new = (IsOver old.reread.most (old.reread.used + n) → ⊥) × (new ≡ record old { reread = record old.reread { used = used_with old.reread.most old.reread.used n } })
+Follows old n (Err e) new = IsOver old.reread.most (old.reread.used + n) × (new ≡ record old { is_limit_reached = true })
+
+-- one more than a number, or none
+abbrev pub and_one : Option ℕ → ℕ
+and_one None = 0
+and_one (Some n) = n + 1
+
+-- n bytes of them were not read
+abbrev pub GivesBack : {S : Type 0} → SizeLimitedFmtAdapter S → (n : ℕ) → SizeLimitedFmtAdapter S → Type 0
+GivesBack old n new = new ≡ record old { reread = record old.reread { used = old.reread.used - n } }
+
+-- Printing these pieces returned `result`. They are not the whole text: the reference after them would have made the
+-- parser read too many bytes again.
 pub record StopsShort {S : Type 0} (sink : Ghosts S) (old : SizeLimitedFmtAdapter S) (pieces : List (List ℕ)) (result : Result (Unit {0}) SinkRefused) (new : SizeLimitedFmtAdapter S) : Type 0 where
   pub same_sink : new.out.ghost_name ≡ old.out.ghost_name
   pub refused : IsErr result
   pub hands : PutsPieces sink old.out.now (prefix_within pieces old.remaining) (sink_result new.is_limit_reached result) new.out.now
 
 -- Printing a text returned `result`, and perhaps references were followed. These pieces are the text up to the limit of
--- references, and the whole text or not.
+-- the bytes that are read again, and the whole text or not.
 abbrev pub PrintsUpTo : {S : Type 0} → Ghosts S → SizeLimitedFmtAdapter S → List (List ℕ) → (is_whole : Bool) → Result (Unit {0}) SinkRefused → SizeLimitedFmtAdapter S → Type 0
-PrintsUpTo sink old pieces true result new = Prints sink old pieces result (record new { references = old.references })
+PrintsUpTo sink old pieces true result new = Prints sink old pieces result (record new { reread = old.reread })
 PrintsUpTo sink old pieces false result new = StopsShort sink old pieces result new
 
 -- the texts of a slice of references

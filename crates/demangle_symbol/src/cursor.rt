@@ -18,7 +18,7 @@ mod window;
 pub use hex::MAX_NIBBLES;
 pub(crate) use hex::nibble_of;
 pub use ident::Ident;
-pub use looks::Looks;
+pub use looks::{Looks, RunLooks};
 pub use primitives::MAX_DEPTH;
 pub use window::WINDOW;
 

@@ -5,17 +5,16 @@ use Rattle.std.proofs.lemmas.List.{append-nil}
 use Rattle.demangle_v0_grammar.specs.Items.{Text}
 use Rattle.demangle_v0_grammar.specs.LookTotals.{total}
 use Rattle.demangle_v0_grammar.specs.LookTotals.{allowed_in}
-use Rattle.demangle_v0_grammar.specs.Traces.{Event, Trace, empty_trace, and_then, with_looks, with_reference, with_texts, looks_then, reference_if, texts_then, context_at}
+use Rattle.demangle_v0_grammar.specs.Traces.{Event, Trace, empty_trace, and_then, with_looks, with_reference, with_end, with_texts, looks_then, reference_if, end_if, texts_then, context_at}
 use Rattle.demangle_v0_tokens.specs.Texts.{text}
 use Rattle.demangle_v0_tokens.specs.Tokens.{texts_of}
 use Rattle.demangle_v0_tokens.specs.declared.token.Token.TheVariants.{Fixed}
 use Rattle.demangle_v0.specs.Frames as heights
 use Rattle.demangle_v0_grammar.specs.Reading.{Form, Place}
 use Rattle.demangle_v0_grammar.proofs.Failed.{failed}
-use Rattle.demangle_v0_grammar.proofs.FailedRows.{allowed_reference}
 use Rattle.demangle_v0.specs.Measure.{most_frames, weight_left, weight_at, weight_of, weights, height_at, height_of, count_of, FitsFrame, Fits, is_inner, IsInner, AllInner}
-use Rattle.demangle_v0.specs.Traces.{Action, allows_looks, goes_back, puts, with_actions, action_looks, pending_texts, pushed_on, then_frame, trace_of_frame, trace_at, trace_of_state, trace_of_stack, remaining_trace}
-use Rattle.demangle_v0.specs.Steps.{Env, StepPart, Machine, Emission, gives, refers_on, after_emission, Emits, Continued, Stopped, KeepsFrames, PerformsAt}
+use Rattle.demangle_v0.specs.Traces.{Action, allows_looks, goes_back, comes_back, puts, with_actions, action_looks, pending_texts, pushed_on, then_frame, trace_of_frame, trace_at, trace_of_state, trace_of_stack, remaining_trace}
+use Rattle.demangle_v0.specs.Steps.{Env, StepPart, Machine, Emission, gives, refers_on, ends_at, after_emission, Emits, Continued, Stopped, KeepsFrames, PerformsAt}
 use Rattle.demangle_v0.specs.Continuations.{items_at, bindings_left}
 use Rattle.demangle_v0.specs.Loops.{FlushesText, without_pending_text, StepDone, ResumesAt, stays, pops, frame_height, AllFit, Valid, Emitted, trace_left, RanSteps, StoppedAfter, Reads, first_looks}
 use Rattle.demangle_sink.specs.declared.SinkRefused.{SinkRefused}
@@ -55,16 +54,29 @@ allowed_said out [] xs = refl
 allowed_said true (t ∷ ts) xs = allowed_said true ts xs
 allowed_said false (t ∷ ts) xs = allowed_said false ts xs
 
-pub reference_then : (out : Bool) (h : Trace) (k : Place → Bool → Trace) → and_then (with_reference out h) k ≡ with_reference out (and_then h k)
-reference_then true h k = refl
-reference_then false h k = refl
+allowed_reference : (out : Bool) (t : ℕ) (xs : List Event) → allowed_in (reference_if out t xs) ≡ allowed_in xs
+allowed_reference true t xs = refl
+allowed_reference false t xs = refl
+
+allowed_end : (out : Bool) (x : Place) (xs : List Event) → allowed_in (end_if out x xs) ≡ allowed_in xs
+allowed_end true x xs = refl
+allowed_end false x xs = refl
+
+pub reference_then : (out : Bool) (t : ℕ) (h : Trace) (k : Place → Bool → Trace) → and_then (with_reference out t h) k ≡ with_reference out t (and_then h k)
+reference_then true t h k = refl
+reference_then false t h k = refl
+
+pub end_then : (out : Bool) (x : Place) (h : Trace) (k : Place → Bool → Trace) → and_then (with_end out x h) k ≡ with_end out x (and_then h k)
+end_then true x h k = refl
+end_then false x h k = refl
 
 module _ {V : Type 0} (e : Env V) where
   -- the actions of a step, in order
   abbrev pub bits_of : List ℕ → Option Emission → List ℕ → List Action
   bits_of prefix None back = allows_looks prefix ∷ allows_looks back ∷ []
   bits_of prefix (Some (gives s)) back = allows_looks prefix ∷ puts (texts_of e.symbol e.form s) ∷ allows_looks back ∷ []
-  bits_of prefix (Some refers_on) back = allows_looks prefix ∷ goes_back ∷ allows_looks back ∷ []
+  bits_of prefix (Some (refers_on t)) back = allows_looks prefix ∷ goes_back t ∷ allows_looks back ∷ []
+  bits_of prefix (Some (ends_at x)) back = allows_looks prefix ∷ comes_back x ∷ allows_looks back ∷ []
 
   abbrev taken : List ℕ → Option Emission → Option FixedText → List ℕ → Trace → Trace
   taken prefix emitted m back h = with_looks prefix (after_emission e emitted (with_texts e.output.is_printed (pending_texts m) (with_looks back h)))
@@ -72,35 +84,42 @@ module _ {V : Type 0} (e : Env V) where
   bits_trace : (prefix : List ℕ) (emitted : Option Emission) (back : List ℕ) (h : Trace) → with_actions e.output.is_printed (bits_of prefix emitted back) h ≡ taken prefix emitted None back h
   bits_trace prefix None back h = refl
   bits_trace prefix (Some (gives s)) back h = refl
-  bits_trace prefix (Some refers_on) back h = refl
+  bits_trace prefix (Some (refers_on t)) back h = refl
+  bits_trace prefix (Some (ends_at x)) back h = refl
 
   pub bits_total : (prefix : List ℕ) (emitted : Option Emission) (back : List ℕ) → action_looks (bits_of prefix emitted back) ≡ total prefix + total back
   bits_total prefix None back = omega arith
   bits_total prefix (Some (gives s)) back = omega arith
-  bits_total prefix (Some refers_on) back = omega arith
+  bits_total prefix (Some (refers_on t)) back = omega arith
+  bits_total prefix (Some (ends_at x)) back = omega arith
 
   bits_emitted : (v w : V) (prefix : List ℕ) (emitted : Option Emission) (back : List ℕ) → Emits e emitted v w → Emitted e (bits_of prefix emitted back) v w
   bits_emitted v w prefix None back t = t
   bits_emitted v w prefix (Some (gives s)) back t = (w, t, refl)
-  bits_emitted v w prefix (Some refers_on) back t = (w, t, refl)
+  bits_emitted v w prefix (Some (refers_on a)) back t = (w, t, refl)
+  bits_emitted v w prefix (Some (ends_at x)) back t = (w, t, refl)
 
   emission_place : (x : Emission) (h : Trace) → (after_emission e (Some x) h).place ≡ h.place
   emission_place (gives s) h = refl
-  emission_place refers_on h = refl
+  emission_place (refers_on t) h = refl
+  emission_place (ends_at x) h = refl
 
   emission_allowed : (x : Emission) (h : Trace) → allowed_in (after_emission e (Some x) h).events ≡ allowed_in h.events
   emission_allowed (gives s) h = allowed_said e.output.is_printed (texts_of e.symbol e.form s) h.events
-  emission_allowed refers_on h = allowed_reference e.output.is_printed h.events
+  emission_allowed (refers_on t) h = allowed_reference e.output.is_printed t h.events
+  emission_allowed (ends_at x) h = allowed_end e.output.is_printed x h.events
 
   emission_then : (x : Emission) (h : Trace) (k : Place → Bool → Trace) → and_then (after_emission e (Some x) h) k ≡ after_emission e (Some x) (and_then h k)
   emission_then (gives s) h k = handing_then e.output.is_printed (texts_of e.symbol e.form s) h k
-  emission_then refers_on h k = reference_then e.output.is_printed h k
+  emission_then (refers_on t) h k = reference_then e.output.is_printed t h k
+  emission_then (ends_at x) h k = end_then e.output.is_printed x h k
 
   emitted_append : (u v w : V) (xs ys : List Action) → Emitted e xs u v → Emitted e ys v w → Emitted e (xs ++ ys) u w
   emitted_append u v w [] ys h k = subst (λ (z : V). Emitted e ys z w) (sym h) k
   emitted_append u v w (allows_looks n ∷ xs) ys h k = emitted_append u v w xs ys h k
   emitted_append u v w (puts ts ∷ xs) ys h k = (h.0, h.1, emitted_append h.0 v w xs ys h.2 k)
-  emitted_append u v w (goes_back ∷ xs) ys h k = (h.0, h.1, emitted_append h.0 v w xs ys h.2 k)
+  emitted_append u v w (goes_back t ∷ xs) ys h k = (h.0, h.1, emitted_append h.0 v w xs ys h.2 k)
+  emitted_append u v w (comes_back x ∷ xs) ys h k = (h.0, h.1, emitted_append h.0 v w xs ys h.2 k)
 
 -- the trace after a step
 abbrev gone : {V : Type 0} → Env V → Option Frame → Continuation → State → Trace
@@ -235,7 +254,8 @@ pub bits_then : (out : Bool) (bits : List Action) (h : Trace) (k : Place → Boo
 bits_then out [] h k = refl
 bits_then out (allows_looks ks ∷ bits) h k = allowing_then ks (with_actions out bits h) k ∙ ap (with_looks ks) (bits_then out bits h k)
 bits_then out (puts ts ∷ bits) h k = handing_then out ts (with_actions out bits h) k ∙ ap (with_texts out ts) (bits_then out bits h k)
-bits_then out (goes_back ∷ bits) h k = reference_then out (with_actions out bits h) k ∙ ap (with_reference out) (bits_then out bits h k)
+bits_then out (goes_back t ∷ bits) h k = reference_then out t (with_actions out bits h) k ∙ ap (with_reference out t) (bits_then out bits h k)
+bits_then out (comes_back x ∷ bits) h k = end_then out x (with_actions out bits h) k ∙ ap (with_end out x) (bits_then out bits h k)
 
 allowed_more : (ks : List ℕ) (xs : List Event) → allowed_in (looks_then ks xs) ≡ total ks + allowed_in xs
 allowed_more [] xs = omega arith
@@ -245,13 +265,15 @@ pub allowed_bits : (out : Bool) (bits : List Action) (h : Trace) → allowed_in 
 allowed_bits out [] h = omega arith
 allowed_bits out (allows_looks ks ∷ bits) h = omega (arith, allowed_more ks (with_actions out bits h).events, allowed_bits out bits h)
 allowed_bits out (puts ts ∷ bits) h = allowed_said out ts (with_actions out bits h).events ∙ allowed_bits out bits h
-allowed_bits out (goes_back ∷ bits) h = allowed_reference out (with_actions out bits h).events ∙ allowed_bits out bits h
+allowed_bits out (goes_back t ∷ bits) h = allowed_reference out t (with_actions out bits h).events ∙ allowed_bits out bits h
+allowed_bits out (comes_back x ∷ bits) h = allowed_end out x (with_actions out bits h).events ∙ allowed_bits out bits h
 
 pub place_bits : (out : Bool) (bits : List Action) (h : Trace) → (with_actions out bits h).place ≡ h.place
 place_bits out [] h = refl
 place_bits out (allows_looks ks ∷ bits) h = place_bits out bits h
 place_bits out (puts ts ∷ bits) h = place_bits out bits h
-place_bits out (goes_back ∷ bits) h = place_bits out bits h
+place_bits out (goes_back t ∷ bits) h = place_bits out bits h
+place_bits out (comes_back x ∷ bits) h = place_bits out bits h
 
 -- no action is left
 

@@ -1,9 +1,10 @@
 -- Nested paths, one in another, whose names are read in a loop.
 use Prim.Native.Char.{code}
 use Rattle.std.specs.Prelude.{◌*◌}
-use Rattle.std.proofs.Common.{◌≡◌, ℕ, zero, suc, ◌+◌, ◌-◌, ◌<◌, ◌≤◌, Bool, false, Option, Some, None, List, [], ◌∷◌, ◌++◌, length, Result, Ok, Err, refl, rules, arith, sym, ap, ◌∙◌, subst, add-one, length-append}
+use Rattle.std.proofs.Common.{◌≡◌, ℕ, zero, suc, ◌+◌, ◌-◌, ◌<◌, ◌≤◌, Bool, true, false, Option, Some, None, List, [], ◌∷◌, ◌++◌, length, Result, Ok, Err, refl, rules, arith, sym, ap, ◌∙◌, subst, add-one, length-append}
 use Rattle.demangle_v0_grammar.specs.Reading.{Form, Place, level_of, levels, parse}
 use Rattle.demangle_v0_grammar.specs.Table.{path}
+use Rattle.demangle_v0_grammar.specs.Items.{a_path}
 use Rattle.demangle_v0_grammar.specs.Traces.{Trace, and_then, with_looks}
 use Rattle.demangle_symbol.specs.Primitives.{byte_at, namespace_at, is_upper}
 use Rattle.demangle_v0_tokens.specs.declared.tags.PathKind.TheVariants as kind
@@ -11,7 +12,7 @@ use Rattle.demangle_v0.specs.Traces.{frame_of, then_frame, trace_at, trace_of_fr
 use Rattle.demangle_v0.specs.Steps.{Machine, Env, machine, CanRead, Performs, PerformsRest, PerformsAt, StepPart, StepResult, rest}
 use Rattle.demangle_v0.specs.Measure.{Fits}
 use Rattle.demangle_v0.specs.Loops.{StepDone}
-use Rattle.demangle_v0.specs.Parsers.{NamesFollow, Performed, PerformedAs, PerformedRest, Placed, Same, env_of, looked, machine_of, machine_over, restacked}
+use Rattle.demangle_v0.specs.Parsers.{Followed, NamesFollow, Performed, PerformedAs, PerformedRest, Placed, Same, env_of, looked, machine_of, machine_over, restacked}
 use Rattle.demangle_v0.specs.Productions.{crate_path}
 use Rattle.demangle_v0.specs.StepRuns.{PerformsLast, Runs, bare, name_frames, raised}
 use Rattle.demangle_v0_tokens.specs.declared.fixed_texts.FixedText.{FixedText}
@@ -25,6 +26,7 @@ use Rattle.demangle_v0.specs.declared.parser.frames.Frame.{Frame}
 use Rattle.demangle_v0.specs.declared.parser.parse.Parser.{Parser}
 use Rattle.demangle_v0_tokens.specs.declared.output.Output.{Ghosts}
 use Rattle.std.proofs.lemmas.List.{append-nil}
+use Rattle.demangle_v0.proofs.BackrefSteps.{unit_path}
 use Rattle.demangle_v0.proofs.LoopLemmas.{step_continues}
 use Rattle.demangle_v0.proofs.PathSteps.{nested_continues, path_as, path_tagged, path_untagged}
 use Rattle.demangle_v0.proofs.StepCases.{ends, marks, text_step}
@@ -342,13 +344,22 @@ module _ {V : Type 0} (output : Ghosts V) where
   abbrev pub in_crate : Parser → ℕ → ℕ → ℕ → ℕ → Parser
   in_crate m outer count next n = record m { state = record m.state { depth_left = outer - count - 1; place = Some next }; looks = n }
 
-  -- a crate is in the nested ones, whose frames are not on its stack
-  crate_deep : (m k : Parser) (v w : V) (outer count at next l n : ℕ) (performed : Result Continuation StepError) → 0 < outer - count → Some (67, next) ≡ byte_at m.source.symbol.now at → n ≡ l + 1 → PerformedRest output (crate_path m.state.in_value) 6 1 0 (in_crate m outer count next n) v performed k w → Placed (in_crate m outer count next n) k
+  -- a path that pushes no frames is in the nested ones, whose frames are not on its stack
+  inner_deep : (m k : Parser) (v w : V) (outer count at tag next l n : ℕ) (performed : Result Continuation StepError) → 0 < outer - count → Some (tag, next) ≡ byte_at m.source.symbol.now at → n ≡ l + 1 → PerformedRest output (path m.state.in_value tag) 6 8 9 (in_crate m outer count next n) v performed k w → Placed (in_crate m outer count next n) k
       → PerformsAt (env_of output m) continuation.Path (deep m v outer count at l) performed (machine_over (m.stack.frames ++ frames_of m outer count) k w)
-  crate_deep m k v w outer count at next l n performed left tag look d placed =
+  inner_deep m k v w outer count at tag next l n performed left read look d placed =
       let stack : k.stack.frames ≡ m.stack.frames = ap (λ (q : Parser). q.stack.frames) placed in
-      let moved = performs_moved stack (m.stack.frames ++ frames_of m outer count) d.does in
-      path_tagged at 67 next n refl left tag look (path_as 67 kind.CrateRoot (search rules) (omega arith) (omega arith) (omega arith) moved)
+      path_tagged at tag next n refl left read look (performs_moved stack (m.stack.frames ++ frames_of m outer count) d.does)
+
+  -- the path of a crate, and of a reference, after its tag
+  pub crate_inner : (m k : Parser) (v w : V) (performed : Result Continuation StepError) → PerformedRest output (crate_path m.state.in_value) 6 1 0 m v performed k w → PerformedRest output (path m.state.in_value 67) 6 8 9 m v performed k w
+  crate_inner m k v w performed d = record { does = path_as 67 kind.CrateRoot (search rules) (omega arith) (omega arith) (omega arith) d.does; same = d.same }
+
+  pub backref_inner : (m k : Parser) (v w : V) (performed : Result Continuation StepError) → Followed output continuation.Path m v performed k w → PerformedRest output (path m.state.in_value 66) 6 8 9 m v performed k w
+  backref_inner m k v w performed follow =
+      let s = m.state in
+      let d = follow true a_path s.in_value (unit_path m.source.symbol.now m.source.form s.in_value s.letter s.lifetimes) in
+      record { does = path_as 66 kind.Backref (search rules) (omega arith) (omega arith) (omega arith) d.does; same = d.same }
 
   -- the crate alone
   pub deep_crate : (m k : Parser) (v w : V) (outer count at next l n : ℕ) (performed : Result Continuation StepError) → count ≡ 0 → 0 < outer - count → Some (67, next) ≡ byte_at m.source.symbol.now at → n ≡ l + 1 → PerformedRest output (crate_path m.state.in_value) 6 1 0 (in_crate m outer count next n) v performed k w → Placed (in_crate m outer count next n) k
@@ -356,17 +367,17 @@ module _ {V : Type 0} (output : Ghosts V) where
   deep_crate m k v w outer count at next l n performed none left tag look d placed =
       let stack : k.stack.frames ≡ m.stack.frames = ap (λ (q : Parser). q.stack.frames) placed in
       let frames : m.stack.frames ++ frames_of m outer count ≡ k.stack.frames = ap (λ (ys : List Frame). m.stack.frames ++ ys) (ap (frames_of m outer) none ∙ frames_none m.state.in_value m.state.lifetimes outer) ∙ (append-nil m.stack.frames ∙ sym stack) in
-      subst (λ (ys : List Frame). PerformsAt (env_of output m) continuation.Path (deep m v outer count at l) performed (machine_over ys k w)) frames (crate_deep m k v w outer count at next l n performed left tag look d placed)
+      subst (λ (ys : List Frame). PerformsAt (env_of output m) continuation.Path (deep m v outer count at l) performed (machine_over ys k w)) frames (inner_deep m k v w outer count at 67 next l n performed left tag look (crate_inner (in_crate m outer count next n) k v w performed d) placed)
 
-  -- the names after it
-  pub crate_last : (m k z : Parser) (v w y : V) (outer count at next l n : ℕ) (performed r : Result Continuation StepError) → Begins m v outer count at l → 0 < outer - count → Some (67, next) ≡ byte_at m.source.symbol.now at → n ≡ l + 1 → PerformedRest output (crate_path m.state.in_value) 6 1 0 (in_crate m outer count next n) v performed k w
+  -- the names after such a path
+  pub inner_last : (m k z : Parser) (v w y : V) (outer count at tag next l n : ℕ) (performed r : Result Continuation StepError) → Begins m v outer count at l → 0 < outer - count → Some (tag, next) ≡ byte_at m.source.symbol.now at → n ≡ l + 1 → PerformedRest output (path m.state.in_value tag) 6 8 9 (in_crate m outer count next n) v performed k w
       → Placed (in_crate m outer count next n) k → NamesFollow output performed count outer k w r z y → PerformsLast (env_of output m) continuation.Path (machine_of m v) r (machine_of z y)
-  crate_last m k z v w y outer count at next l n performed r x left tag look d placed follow =
+  inner_last m k z v w y outer count at tag next l n performed r x left read look d placed follow =
       let source : k.source ≡ m.source = ap (λ (q : Parser). q.source) placed in
       let stack : k.stack.frames ≡ m.stack.frames = ap (λ (q : Parser). q.stack.frames) placed in
       let frames : frames_of m outer count ≡ frames_of k outer count =
       ap (λ (a : Bool). name_frames a m.state.lifetimes outer count) (sym (ap (λ (q : Parser). q.state.in_value) placed)) ∙ ap (λ (b : ℕ). name_frames k.state.in_value b outer count) (sym (ap (λ (q : Parser). q.state.lifetimes) placed)) in
       let same : m.stack.frames ++ frames_of m outer count ≡ k.stack.frames ++ frames_of k outer count = ap (λ (ys : List Frame). ys ++ frames_of m outer count) (sym stack) ∙ ap (λ (ys : List Frame). k.stack.frames ++ ys) frames in
       let over : PerformsAt (env_of output m) continuation.Path (deep m v outer count at l) performed (machine_over (k.stack.frames ++ frames_of k outer count) k w) =
-      subst (λ (ys : List Frame). PerformsAt (env_of output m) continuation.Path (deep m v outer count at l) performed (machine_over ys k w)) same (crate_deep m k v w outer count at next l n performed left tag look d placed) in
+      subst (λ (ys : List Frame). PerformsAt (env_of output m) continuation.Path (deep m v outer count at l) performed (machine_over ys k w)) same (inner_deep m k v w outer count at tag next l n performed left read look d placed) in
       rw source at (follow continuation.Path continuation.Path (machine_of m v) (begun m v outer count at l) (rw source x) (sym stack) frames (rw source over))

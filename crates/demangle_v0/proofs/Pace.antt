@@ -182,3 +182,12 @@ refers b left (Some i) target next e = go (backref_at b i) refl e
     go : (r : Read ℕ) → backref_at b i ≡ r → Target target next ≡ (reference_read (length b) left i r).refers → Refers b (Some i) (total (reference_read (length b) left i r).costs) target next
     go None k e = cc e
     go (Some r) k e = let p = placed (i + 1) b (backref_at b i) (backref_placed b i) r.0 r.1 k in found left r.0 r.1 (target_before b i r.0 r.1 k) p.0 p.1 e
+
+-- the looks at a reference, whether it is followed or not
+pub refers_most : (b : List ℕ) (left : ℕ) (i : Place) → total (read_backref b left i).costs ≤ 4 * left_at (length b) i + 5
+refers_most b left None = omega arith
+refers_most b left (Some i) = go (backref_at b i) (backref_placed b i)
+  where
+    go : (r : Read ℕ) → Placed (i + 1) b r → total (reference_read (length b) left i r).costs ≤ 4 * left_at (length b) (Some i) + 5
+    go None p = omega arith
+    go (Some r) p = omega (arith, p.0, p.1)

@@ -7,8 +7,8 @@ use Rattle.demangle_v0_grammar.specs.Reading.{Form}
 use Rattle.demangle_v0_tokens.specs.declared.output.Output.{Ghosts}
 use Rattle.demangle_sink.specs.declared.SinkRefused.{SinkRefused}
 use Rattle.demangle_v0.specs.Loops.{ValidUnfinished}
-use Rattle.demangle_v0.specs.Parsers.{UnfinishedIsValid, Same, PerformedRest, Performed, Advanced, AdvancedRest, AdvancedWithoutOutput, AdvancedUnfolded, unused_output, env_of, checkpoint_of}
-use Rattle.demangle_v0.specs.Steps.{StepResult, Performs, Emits, StepPart, Machine, env, machine, Emission, gives, refers_on, Receives}
+use Rattle.demangle_v0.specs.Parsers.{UnfinishedIsValid, Same, PerformedRest, Performed, Advanced, AdvancedRest, AdvancedWithoutOutput, AdvancedUnfolded, unused_output, checkpoint_of}
+use Rattle.demangle_v0.specs.Steps.{StepResult, Performs, Emits, StepPart, env, machine, Emission, gives, refers_on, ends_at, Receives}
 use Rattle.demangle_v0.specs.declared.parser.Continuation.{Continuation}
 use Rattle.demangle_v0.specs.declared.parser.State.{State}
 use Rattle.demangle_v0.specs.declared.parser.StepError.{StepError}
@@ -22,11 +22,14 @@ use Rattle.demangle_v0.specs.declared.parser.steps.Unfinished.{Unfinished}
 none_emitted : (p : Bool) (b : List ℕ) (h : Form) (o : Option Emission) → Emits (env (unused_output p) b h) o tt tt → o ≡ None
 none_emitted p b h None k = refl
 none_emitted p b h (Some (gives s)) k = absurd k
-none_emitted p b h (Some refers_on) k = absurd k
+none_emitted p b h (Some (refers_on t)) k = absurd k
+none_emitted p b h (Some (ends_at e)) k = absurd k
 
 none_received : (p : Bool) (b : List ℕ) (h : Form) (x : Emission) (r : Result (Unit {0}) SinkRefused) → Receives (env (unused_output p) b h) x tt r tt → ⊥
 none_received p b h (gives s) r k = k
-none_received p b h refers_on r k = k
+none_received p b h (refers_on t) r k = k
+none_received p b h (ends_at e) (Ok u) k = k
+none_received p b h (ends_at e) (Err f) k = k
 
 comes_trace : {V : Type 0} (output : Ghosts V) (b : List ℕ) (h : Form) (v : V) (part : StepPart) (s t : State) (stack now : List Frame) (n m : ℕ) (r : Result Continuation StepError)
     → StepResult (env (unused_output output.is_printed) b h) part (machine s stack tt n) r (machine t now tt m) → StepResult (env output b h) part (machine s stack v n) r (machine t now v m)

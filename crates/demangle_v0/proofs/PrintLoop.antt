@@ -1,10 +1,10 @@
 -- Parses that print.
 use Rattle.demangle_v0_grammar.proofs.BudgetRules.{IsWithinBudget-more}
 use Rattle.demangle_v0_grammar.proofs.ReferenceLaw.{shown_moves, dues, path_dues}
-use Rattle.demangle_v0_grammar.specs.References.{Move, says, follows, texts_before, is_whole, path_moves, path_texts_before, is_path_whole}
+use Rattle.demangle_v0_grammar.specs.References.{Move, says, follows, ends, bytes_after, texts_before, is_whole, path_moves}
 use Rattle.std.specs.Prelude.{◌*◌}
-use Rattle.std.proofs.Common.{◌≡◌, ℕ, ◌+◌, ◌-◌, ◌≤◌, true, Option, Some, None, List, [], ◌∷◌, ◌++◌, length, Result, Ok, Err, IsErr, refl, arith, sym, ap, ◌∙◌, subst, append_assoc, false, zero, suc}
-use Rattle.std.proofs.lemmas.Bool.{false≢true}
+use Rattle.std.proofs.Common.{◌≡◌, ℕ, ◌+◌, ◌-◌, ◌≤◌, ◌<◌, Bool, true, Option, Some, None, List, [], ◌∷◌, ◌++◌, length, Result, Ok, Err, IsErr, refl, arith, sym, ap, ◌∙◌, subst, append_assoc, false}
+use Rattle.std.proofs.lemmas.Bool.{false≢true, le-leb, lt-leb}
 use Rattle.std.proofs.lemmas.List.{append-nil}
 use Rattle.std.proofs.Math.Nat.{mul-le-mul_left}
 use Rattle.demangle_v0_grammar.specs.Items.{Text, a_path}
@@ -24,12 +24,13 @@ use Rattle.demangle_v0_grammar.specs.Again.{path_again}
 use Rattle.demangle_v0_grammar.proofs.AgainLaw.{path_looks}
 use Rattle.demangle_v0_tokens.specs.Tokens.{texts_of}
 use Rattle.demangle_v0_grammar.specs.Traces.{Event, Trace, looks_then, texts_then, moves_in}
-use Rattle.demangle_sink.specs.Limit.{Prints, Ready, PrintsUpTo, one_less}
+use Rattle.demangle_sink.specs.Limit.{Prints, Ready, PrintsUpTo, IsOver, used_with}
 use Rattle.demangle_sink.specs.declared.TextSink.{Ghosts as Sinks}
 use Rattle.demangle_sink.specs.declared.SinkRefused.{SinkRefused}
+use Rattle.demangle_sink.specs.declared.limit.Reread.{Reread}
 use Rattle.demangle_sink.specs.declared.limit.SizeLimitedFmtAdapter.{SizeLimitedFmtAdapter}
-use Rattle.demangle_v0.specs.Traces.{Action, allows_looks, puts, with_actions, action_looks, action_texts, trace_at, trace_of_stack, remaining_trace, goes_back}
-use Rattle.demangle_v0.specs.Steps.{Env, Machine, machine, Emission, gives, refers_on, after_emission, Receives}
+use Rattle.demangle_v0.specs.Traces.{Action, allows_looks, puts, with_actions, action_looks, action_texts, trace_at, trace_of_stack, remaining_trace, goes_back, comes_back}
+use Rattle.demangle_v0.specs.Steps.{Env, Machine, machine, StepPart, Stopped, Emission, gives, refers_on, ends_at, after_emission, Receives}
 use Rattle.demangle_v0.specs.Loops.{Valid, Emitted, RanSteps, StoppedAfter, Skipped, StopsInPart, printing, PrintDone, Passed, ValidUnfinished, Finishes, Ended, EndedAt, first_state, part_trace}
 use Rattle.demangle_v0.specs.declared.parser.Continuation.{Continuation}
 use Rattle.demangle_v0.specs.declared.parser.Continuation.TheVariants as continuation
@@ -97,16 +98,47 @@ module _ {V : Type 0} {e : Env V} where
       some_none : Some y ≡ None → ⊥
       some_none z = cc
 
-  -- the rest of a parse was printed, which counted its own looks
-  pub ended_apart : {p : Continuation} {t : Machine V} {answer : Option Unfinished} {r : Checkpoint} {now : List Frame} {v w : V} {m n : ℕ} → answer ≡ Some left.Printing → PrintDone e p t (Ok answer) r now v m → Ended e r.continuation (machine r.state now v 0) (Ok tt) w n → Ended e p t (Ok tt) w n
-  ended_apart {answer = None} k c z = absurd (none_some k)
+  -- a step that failed, from another count of looks
+  stopped_apart : {part : StepPart} {s t : Machine V} (k old : ℕ) → Stopped e part s t → Stopped e part (record s { looks = k + (s.looks - old) }) (record t { looks = k + (t.looks - old) })
+  stopped_apart k old h = record {
+    prefix = h.prefix;
+    emitted = h.emitted;
+    rest = h.rest;
+    rejection = h.rejection;
+    prints = h.prints;
+    reads = h.reads;
+    primitive_count = h.primitive_count;
+    paid_looks = omega (arith, h.paid_looks);
+    exact = λ q. omega (arith, h.exact q);
+    fails = h.fails;
+  }
+
+  -- the rest of a parse was printed, with a count of looks that was `old` and is `new`
+  pub ended_apart : {p : Continuation} {t : Machine V} {answer : Option Unfinished} {r : Checkpoint} {now : List Frame} {v w : V} {m old new : ℕ} (result : Result (Unit {0}) SinkRefused) → answer ≡ Some left.Printing → PrintDone e p t (Ok answer) r now v m
+      → Ended e r.continuation (machine r.state now v old) result w new → Ended e p t result w (m + (new - old))
+  ended_apart {answer = None} result k c z = absurd (none_some k)
     where
       none_some : None ≡ Some left.Printing → ⊥
       none_some z = cc
-  ended_apart {answer = Some left.Printing} k c z =
-      let a = c.ran in
-      record { ended = (z.ended.0, ran_then (record { bits = a.bits; emits = a.emits; reads = a.reads; paid_looks = omega arith }) z.ended.1) }
-  ended_apart {answer = Some (left.Skipping base at)} k c z = absurd (other k)
+  ended_apart {answer = Some left.Printing} (Ok u) k c z =
+      let b = z.ended.1 in
+      record { ended = (z.ended.0, ran_then c.ran (record { bits = b.bits; emits = b.emits; reads = b.reads; paid_looks = omega (arith, b.paid_looks) })) }
+  ended_apart {answer = Some left.Printing} {m = m} {old = old} {new = new} (Err f) k c z =
+      let d = z.ended in
+      let b = d.ran in
+      record {
+        ended = record {
+          at = d.at;
+          mid = record d.mid { looks = m + (d.mid.looks - old) };
+          stack = d.stack;
+          end = record d.end { looks = m + (d.end.looks - old) };
+          ran = ran_then c.ran (record { bits = b.bits; emits = b.emits; reads = b.reads; paid_looks = omega (arith, b.paid_looks) });
+          halts = stopped_apart m old d.halts;
+          same_output = d.same_output;
+          same_looks = ap (λ (n : ℕ). m + (n - old)) d.same_looks;
+        };
+      }
+  ended_apart {answer = Some (left.Skipping base at)} result k c z = absurd (other k)
     where
       other : Some (left.Skipping base at) ≡ Some left.Printing → ⊥
       other z = cc
@@ -122,8 +154,8 @@ finished_valid b form i j primitive_count now (left.Skipping base r) (left.Skipp
     let z = v.1 in
     rw (k.0, k.1) (v.0, record { below = z.below; height = z.height; skips = z.skips; valid = z.valid; reads = k.4 z.below v.0 z.reads z.height }, k.2, k.3)
 
-follow_ready : {S : Type 0} (sink : Sinks S) (v w : SizeLimitedFmtAdapter S) → Ready sink v → w ≡ record v { references = one_less v.references } → Ready sink w
-follow_ready sink v w r e = subst (λ (z : SizeLimitedFmtAdapter _). Ready sink z) (sym e) (record { not_failed = r.not_failed; fresh = r.fresh })
+reread_ready : {S : Type 0} (sink : Sinks S) (v w : SizeLimitedFmtAdapter S) (k : Reread) → Ready sink v → w ≡ record v { reread = k } → Ready sink w
+reread_ready sink v w k r e = subst (λ (z : SizeLimitedFmtAdapter _). Ready sink z) (sym e) (record { not_failed = r.not_failed; fresh = r.fresh })
 
 -- The moves.
 
@@ -135,7 +167,8 @@ abbrev then_moves : List Action → List Move → List Move
 then_moves [] ms = ms
 then_moves (allows_looks ks ∷ bits) ms = then_moves bits ms
 then_moves (puts ts ∷ bits) ms = says_then ts (then_moves bits ms)
-then_moves (goes_back ∷ bits) ms = follows ∷ then_moves bits ms
+then_moves (goes_back t ∷ bits) ms = follows t ∷ then_moves bits ms
+then_moves (comes_back x ∷ bits) ms = ends x ∷ then_moves bits ms
 
 moved_allowed : (ks : List ℕ) (xs : List Event) → moves_in (looks_then ks xs) ≡ moves_in xs
 moved_allowed [] xs = refl
@@ -149,32 +182,48 @@ moved_bits : (bits : List Action) (h : Trace) → moves_in (with_actions true bi
 moved_bits [] h = refl
 moved_bits (allows_looks ks ∷ bits) h = moved_allowed ks (with_actions true bits h).events ∙ moved_bits bits h
 moved_bits (puts ts ∷ bits) h = moved_said ts (with_actions true bits h).events ∙ ap (says_then ts) (moved_bits bits h)
-moved_bits (goes_back ∷ bits) h = ap (λ (ms : List Move). follows ∷ ms) (moved_bits bits h)
+moved_bits (goes_back t ∷ bits) h = ap (λ (ms : List Move). follows t ∷ ms) (moved_bits bits h)
+moved_bits (comes_back x ∷ bits) h = ap (λ (ms : List Move). ends x ∷ ms) (moved_bits bits h)
 
-said_texts : (most : Option ℕ) (ts : List Text) (ms : List Move) → texts_before most (says_then ts ms) ≡ ts ++ texts_before most ms
-said_texts most [] ms = refl
-said_texts most (t ∷ ts) ms = ap (λ (xs : List Text). t ∷ xs) (said_texts most ts ms)
+said_texts : (most : Option ℕ) (n used : ℕ) (ts : List Text) (ms : List Move) → texts_before most n used (says_then ts ms) ≡ ts ++ texts_before most n used ms
+said_texts most n used [] ms = refl
+said_texts most n used (t ∷ ts) ms = ap (λ (xs : List Text). t ∷ xs) (said_texts most n used ts ms)
 
-said_whole : (most : Option ℕ) (ts : List Text) (ms : List Move) → is_whole most (says_then ts ms) ≡ is_whole most ms
-said_whole most [] ms = refl
-said_whole most (t ∷ ts) ms = said_whole most ts ms
+said_whole : (most : Option ℕ) (n used : ℕ) (ts : List Text) (ms : List Move) → is_whole most n used (says_then ts ms) ≡ is_whole most n used ms
+said_whole most n used [] ms = refl
+said_whole most n used (t ∷ ts) ms = said_whole most n used ts ms
 
-followed_texts : (most : Option ℕ) (ms : List Move) → (most ≡ Some 0 → ⊥) → texts_before most (follows ∷ ms) ≡ texts_before (one_less most) ms
-followed_texts None ms h = refl
-followed_texts (Some zero) ms h = absurd (h refl)
-followed_texts (Some (suc k)) ms h = ap (λ (z : ℕ). texts_before (Some z) ms) (omega arith)
+followed_texts : (most : Option ℕ) (n used t : ℕ) (ms : List Move) → (IsOver most (used + (n - t + 1)) → ⊥) → texts_before most n used (follows t ∷ ms) ≡ texts_before most n (used_with most used (n - t + 1)) ms
+followed_texts None n used t ms h = refl
+followed_texts (Some k) n used t ms h = rw (le-leb (used + (n - t + 1)) k (omega (arith, h))) refl
 
-followed_whole : (most : Option ℕ) (ms : List Move) → (most ≡ Some 0 → ⊥) → is_whole most (follows ∷ ms) ≡ is_whole (one_less most) ms
-followed_whole None ms h = refl
-followed_whole (Some zero) ms h = absurd (h refl)
-followed_whole (Some (suc k)) ms h = ap (λ (z : ℕ). is_whole (Some z) ms) (omega arith)
+followed_whole : (most : Option ℕ) (n used t : ℕ) (ms : List Move) → (IsOver most (used + (n - t + 1)) → ⊥) → is_whole most n used (follows t ∷ ms) ≡ is_whole most n (used_with most used (n - t + 1)) ms
+followed_whole None n used t ms h = refl
+followed_whole (Some k) n used t ms h = rw (le-leb (used + (n - t + 1)) k (omega (arith, h))) refl
 
--- how many references were followed
-abbrev references_in : List Action → ℕ
-references_in [] = 0
-references_in (allows_looks ks ∷ bits) = references_in bits
-references_in (puts ts ∷ bits) = references_in bits
-references_in (goes_back ∷ bits) = 1 + references_in bits
+-- a reference for which too few bytes are left
+over_texts : (most : Option ℕ) (n used t : ℕ) (ms : List Move) → IsOver most (used + (n - t + 1)) → texts_before most n used (follows t ∷ ms) ≡ []
+over_texts None n used t ms h = absurd h
+over_texts (Some k) n used t ms h = rw (lt-leb (used + (n - t + 1)) k h) refl
+
+over_whole : (most : Option ℕ) (n used t : ℕ) (ms : List Move) → IsOver most (used + (n - t + 1)) → is_whole most n used (follows t ∷ ms) ≡ false
+over_whole None n used t ms h = absurd h
+over_whole (Some k) n used t ms h = rw (lt-leb (used + (n - t + 1)) k h) refl
+
+-- how many bytes references use, and how many are given back, in a symbol of n bytes
+abbrev used_in : ℕ → List Action → ℕ
+used_in n [] = 0
+used_in n (allows_looks ks ∷ bits) = used_in n bits
+used_in n (puts ts ∷ bits) = used_in n bits
+used_in n (goes_back t ∷ bits) = n - t + 1 + used_in n bits
+used_in n (comes_back x ∷ bits) = used_in n bits
+
+abbrev given_in : ℕ → List Action → ℕ
+given_in n [] = 0
+given_in n (allows_looks ks ∷ bits) = given_in n bits
+given_in n (puts ts ∷ bits) = given_in n bits
+given_in n (goes_back t ∷ bits) = given_in n bits
+given_in n (comes_back x ∷ bits) = bytes_after n x + given_in n bits
 
 due_texts : (r a n : ℕ) (ts : List Text) (xs : List Event) → IsWithinBudget r a (dues n (texts_then true ts xs)) 0 → IsWithinBudget r a (dues n xs) 0
 due_texts r a n [] xs h = h
@@ -186,14 +235,15 @@ due_looks r a n (k ∷ ks) xs h =
     let q : (total ks ≤ a - k + r * 0) × IsWithinBudget r (a - k + r * 0 - total ks) (dues n xs) 0 = due_looks r (a - k + r * 0) n ks xs h.1 in
     (omega (arith, h.0, q.0), IsWithinBudget-more r (a - k + r * 0 - total ks) (a - (k + total ks)) 0 0 0 _ (omega (arith, h.0, q.0)) (omega arith) q.1)
 
--- the looks of these actions, if each reference pays for those of a whole symbol
-bits_due : (a n : ℕ) (bits : List Action) (h : Trace) → IsWithinBudget 17 a (dues n (with_actions true bits h).events) 0 → action_looks bits ≤ a + 17 * ((n + 1) * references_in bits)
+-- the looks of these actions, and what is given back
+bits_due : (a n : ℕ) (bits : List Action) (h : Trace) → IsWithinBudget 17 a (dues n (with_actions true bits h).events) 0 → action_looks bits + 17 * given_in n bits ≤ a + 17 * used_in n bits
 bits_due a n [] h p = omega arith
 bits_due a n (allows_looks ks ∷ bits) h p =
     let q = due_looks 17 a n ks (with_actions true bits h).events p in
     omega (arith, q.0, bits_due (a - total ks) n bits h q.1)
 bits_due a n (puts ts ∷ bits) h p = bits_due a n bits h (due_texts 17 a n ts (with_actions true bits h).events p)
-bits_due a n (goes_back ∷ bits) h p = omega (arith, bits_due (a - 0 + 17 * (n + 1)) n bits h p.1)
+bits_due a n (goes_back t ∷ bits) h p = omega (arith, bits_due (a - 0 + 17 * (n - t + 1)) n bits h p.1)
+bits_due a n (comes_back x ∷ bits) h p = omega (arith, p.0, bits_due (a - 17 * bytes_after n x + 17 * 0) n bits h p.1)
 
 more : (r a x y z l : ℕ) → z ≡ x + y → l ≤ a + r * x + r * y → l ≤ a + r * z
 more r a x y z l e h = rw e (omega (arith, h))
@@ -203,7 +253,8 @@ bits_paid r a [] h p = omega arith
 bits_paid r a (allows_looks ks ∷ bits) h p =
     let q = pays_looks r a 0 ks _ (subst (λ xs. IsWithinBudget r a xs 0) (weighed_allowed ks (with_actions true bits h).events) p) in
     omega (arith, q.0, bits_paid r (a - total ks) bits h q.1)
-bits_paid r a (goes_back ∷ bits) h p = bits_paid r a bits h (IsWithinBudget-more r (a - 0 + r * 0) a 0 0 0 _ (omega arith) (omega arith) p.1)
+bits_paid r a (goes_back t ∷ bits) h p = bits_paid r a bits h (IsWithinBudget-more r (a - 0 + r * 0) a 0 0 0 _ (omega arith) (omega arith) p.1)
+bits_paid r a (comes_back x ∷ bits) h p = bits_paid r a bits h (IsWithinBudget-more r (a - 0 + r * 0) a 0 0 0 _ (omega arith) (omega arith) p.1)
 bits_paid r a (puts ts ∷ bits) h p =
     let q = pays_texts r a 0 ts _ (subst (λ xs. IsWithinBudget r a xs 0) (weighed_said ts (with_actions true bits h).events) p) in
     more r a (size ts) (size (action_texts bits)) _ _ (size-append ts (action_texts bits)) (bits_paid r (a + r * size ts) bits h q)
@@ -232,49 +283,66 @@ module _ {S : Type 0} (sink : Sinks S) (b : List ℕ) (form : Form) where
   abbrev begun : SizeLimitedFmtAdapter S → ℕ → Machine (SizeLimitedFmtAdapter S)
   begun v n = machine (first_state 0) [] v n
 
+  -- the same with other bytes that are read again
+  otherwise : (v w mid : SizeLimitedFmtAdapter S) (ts : List Text) (k : Reread) → mid ≡ record v { reread = k } → Prints sink mid ts (Ok tt) (record w { reread = mid.reread }) → Prints sink v ts (Ok tt) (record w { reread = v.reread })
+  otherwise v w mid ts k e p = prints_anyway sink (record v { reread = k }) (record w { reread = k }) ts (Ok tt) v.reread
+      (subst (λ (z : SizeLimitedFmtAdapter S). Prints sink z ts (Ok tt) (record w { reread = z.reread })) e p)
+
   -- the texts were printed; references may have been followed
-  emitted_prints : (v w : SizeLimitedFmtAdapter S) (bits : List Action) → Ready sink v → Emitted (printing sink b form) bits v w → Prints sink v (action_texts bits) (Ok tt) (record w { references = v.references })
-  emitted_prints v w [] r e = subst (λ (z : SizeLimitedFmtAdapter S). Prints sink v [] (Ok tt) (record z { references = v.references })) e (prints_nothing sink v r)
+  emitted_prints : (v w : SizeLimitedFmtAdapter S) (bits : List Action) → Ready sink v → Emitted (printing sink b form) bits v w → Prints sink v (action_texts bits) (Ok tt) (record w { reread = v.reread })
+  emitted_prints v w [] r e = subst (λ (z : SizeLimitedFmtAdapter S). Prints sink v [] (Ok tt) (record z { reread = v.reread })) e (prints_nothing sink v r)
   emitted_prints v w (allows_looks ks ∷ bits) r t = emitted_prints v w bits r t
   emitted_prints v w (puts ts ∷ bits) r t =
       let rest = emitted_prints t.0 w bits (prints_ready sink v ts (Ok tt) t.0 t.1 refl) t.2 in
-      subst (λ (k : Option ℕ). Prints sink v (ts ++ action_texts bits) (Ok tt) (record w { references = k })) t.1.references (prints_then sink v t.0 (record w { references = t.0.references }) ts (action_texts bits) (Ok tt) (Ok tt) t.1 refl rest)
-  emitted_prints v w (goes_back ∷ bits) r t = after_follow v w (action_texts bits) t.0 t.1.1 (emitted_prints t.0 w bits (follow_ready sink v t.0 r t.1.1) t.2)
-    where
-      after_follow : (v w : SizeLimitedFmtAdapter S) (ts : List Text) (mid : SizeLimitedFmtAdapter S) → mid ≡ record v { references = one_less v.references } → Prints sink mid ts (Ok tt) (record w { references = mid.references }) → Prints sink v ts (Ok tt) (record w { references = v.references })
-      after_follow v w ts mid e p = prints_anyway sink (record v { references = one_less v.references }) (record w { references = one_less v.references }) ts (Ok tt) v.references
-          (subst (λ (z : SizeLimitedFmtAdapter S). Prints sink z ts (Ok tt) (record w { references = z.references })) e p)
+      subst (λ (k : Reread). Prints sink v (ts ++ action_texts bits) (Ok tt) (record w { reread = k })) t.1.reread (prints_then sink v t.0 (record w { reread = t.0.reread }) ts (action_texts bits) (Ok tt) (Ok tt) t.1 refl rest)
+  emitted_prints v w (goes_back a ∷ bits) r t = otherwise v w t.0 (action_texts bits) _ t.1.1 (emitted_prints t.0 w bits (reread_ready sink v t.0 _ r t.1.1) t.2)
+  emitted_prints v w (comes_back x ∷ bits) r t = otherwise v w t.0 (action_texts bits) _ t.1 (emitted_prints t.0 w bits (reread_ready sink v t.0 _ r t.1) t.2)
 
-  -- what is left after these actions, up to the limit of references
-  limited_texts : (v w : SizeLimitedFmtAdapter S) (bits : List Action) (ms : List Move) → Emitted (printing sink b form) bits v w → texts_before v.references (then_moves bits ms) ≡ action_texts bits ++ texts_before w.references ms
-  limited_texts v w [] ms e = ap (λ (z : SizeLimitedFmtAdapter S). texts_before z.references ms) e
+  -- the texts of moves from here on, up to the limit of an output, and whether they are all
+  abbrev texts_from : SizeLimitedFmtAdapter S → List Move → List Text
+  texts_from v ms = texts_before v.reread.most (length b) v.reread.used ms
+
+  abbrev whole_from : SizeLimitedFmtAdapter S → List Move → Bool
+  whole_from v ms = is_whole v.reread.most (length b) v.reread.used ms
+
+  -- what is left after these actions
+  limited_texts : (v w : SizeLimitedFmtAdapter S) (bits : List Action) (ms : List Move) → Emitted (printing sink b form) bits v w → texts_from v (then_moves bits ms) ≡ action_texts bits ++ texts_from w ms
+  limited_texts v w [] ms e = ap (λ (z : SizeLimitedFmtAdapter S). texts_from z ms) e
   limited_texts v w (allows_looks ks ∷ bits) ms t = limited_texts v w bits ms t
   limited_texts v w (puts ts ∷ bits) ms t =
-      said_texts v.references ts (then_moves bits ms)
-      ∙ (ap (λ (k : Option ℕ). ts ++ texts_before k (then_moves bits ms)) (sym t.1.references)
-      ∙ (ap (λ (xs : List Text). ts ++ xs) (limited_texts t.0 w bits ms t.2) ∙ sym (append_assoc ts (action_texts bits) (texts_before w.references ms))))
-  limited_texts v w (goes_back ∷ bits) ms t =
-      followed_texts v.references (then_moves bits ms) t.1.0
-      ∙ (ap (λ (z : SizeLimitedFmtAdapter S). texts_before z.references (then_moves bits ms)) (sym t.1.1) ∙ limited_texts t.0 w bits ms t.2)
+      said_texts v.reread.most (length b) v.reread.used ts (then_moves bits ms)
+      ∙ (ap (λ (k : Reread). ts ++ texts_before k.most (length b) k.used (then_moves bits ms)) (sym t.1.reread)
+      ∙ (ap (λ (xs : List Text). ts ++ xs) (limited_texts t.0 w bits ms t.2) ∙ sym (append_assoc ts (action_texts bits) (texts_from w ms))))
+  limited_texts v w (goes_back a ∷ bits) ms t =
+      followed_texts v.reread.most (length b) v.reread.used a (then_moves bits ms) t.1.0
+      ∙ (ap (λ (z : SizeLimitedFmtAdapter S). texts_from z (then_moves bits ms)) (sym t.1.1) ∙ limited_texts t.0 w bits ms t.2)
+  limited_texts v w (comes_back x ∷ bits) ms t = ap (λ (z : SizeLimitedFmtAdapter S). texts_from z (then_moves bits ms)) (sym t.1) ∙ limited_texts t.0 w bits ms t.2
 
-  limited_whole : (v w : SizeLimitedFmtAdapter S) (bits : List Action) (ms : List Move) → Emitted (printing sink b form) bits v w → is_whole v.references (then_moves bits ms) ≡ is_whole w.references ms
-  limited_whole v w [] ms e = ap (λ (z : SizeLimitedFmtAdapter S). is_whole z.references ms) e
+  limited_whole : (v w : SizeLimitedFmtAdapter S) (bits : List Action) (ms : List Move) → Emitted (printing sink b form) bits v w → whole_from v (then_moves bits ms) ≡ whole_from w ms
+  limited_whole v w [] ms e = ap (λ (z : SizeLimitedFmtAdapter S). whole_from z ms) e
   limited_whole v w (allows_looks ks ∷ bits) ms t = limited_whole v w bits ms t
   limited_whole v w (puts ts ∷ bits) ms t =
-      said_whole v.references ts (then_moves bits ms) ∙ (ap (λ (k : Option ℕ). is_whole k (then_moves bits ms)) (sym t.1.references) ∙ limited_whole t.0 w bits ms t.2)
-  limited_whole v w (goes_back ∷ bits) ms t =
-      followed_whole v.references (then_moves bits ms) t.1.0
-      ∙ (ap (λ (z : SizeLimitedFmtAdapter S). is_whole z.references (then_moves bits ms)) (sym t.1.1) ∙ limited_whole t.0 w bits ms t.2)
+      said_whole v.reread.most (length b) v.reread.used ts (then_moves bits ms)
+      ∙ (ap (λ (k : Reread). is_whole k.most (length b) k.used (then_moves bits ms)) (sym t.1.reread) ∙ limited_whole t.0 w bits ms t.2)
+  limited_whole v w (goes_back a ∷ bits) ms t =
+      followed_whole v.reread.most (length b) v.reread.used a (then_moves bits ms) t.1.0
+      ∙ (ap (λ (z : SizeLimitedFmtAdapter S). whole_from z (then_moves bits ms)) (sym t.1.1) ∙ limited_whole t.0 w bits ms t.2)
+  limited_whole v w (comes_back x ∷ bits) ms t = ap (λ (z : SizeLimitedFmtAdapter S). whole_from z (then_moves bits ms)) (sym t.1) ∙ limited_whole t.0 w bits ms t.2
 
-  -- no more references were followed than are allowed
-  limited_references : (k : ℕ) (v w : SizeLimitedFmtAdapter S) (bits : List Action) → v.references ≡ Some k → Emitted (printing sink b form) bits v w → references_in bits ≤ k
-  limited_references k v w [] e t = omega arith
-  limited_references k v w (allows_looks ks ∷ bits) e t = limited_references k v w bits e t
-  limited_references k v w (puts ts ∷ bits) e t = limited_references k t.0 w bits (t.1.references ∙ e) t.2
-  limited_references zero v w (goes_back ∷ bits) e t = absurd (t.1.0 e)
-  limited_references (suc k) v w (goes_back ∷ bits) e t =
-      let left : t.0.references ≡ Some k = ap (λ (z : SizeLimitedFmtAdapter S). z.references) t.1.1 ∙ (ap one_less e ∙ ap (λ (z : ℕ). Some z) (omega arith)) in
-      omega (arith, limited_references k t.0 w bits left t.2)
+  -- no more bytes are used at once than are allowed
+  limited_use : (k u : ℕ) (v w : SizeLimitedFmtAdapter S) (bits : List Action) → v.reread ≡ record { most = Some k; used = u } → Emitted (printing sink b form) bits v w → used_in (length b) bits ≤ given_in (length b) bits + (k - u)
+  limited_use k u v w [] e t = omega arith
+  limited_use k u v w (allows_looks ks ∷ bits) e t = limited_use k u v w bits e t
+  limited_use k u v w (puts ts ∷ bits) e t = limited_use k u t.0 w bits (t.1.reread ∙ e) t.2
+  limited_use k u v w (goes_back a ∷ bits) e t =
+      let n : ℕ = length b - a + 1 in
+      let left : t.0.reread ≡ record { most = Some k; used = u + n } = ap (λ (z : SizeLimitedFmtAdapter S). z.reread) t.1.1 ∙ ap (λ (r : Reread). record r { used = used_with r.most r.used n }) e in
+      let fits : k < u + n → ⊥ = subst (λ (r : Reread). IsOver r.most (r.used + n) → ⊥) e t.1.0 in
+      omega (arith, fits, limited_use k (u + n) t.0 w bits left t.2)
+  limited_use k u v w (comes_back x ∷ bits) e t =
+      let n : ℕ = bytes_after (length b) x in
+      let left : t.0.reread ≡ record { most = Some k; used = u - n } = ap (λ (z : SizeLimitedFmtAdapter S). z.reread) t.1 ∙ ap (λ (r : Reread). record r { used = r.used - n }) e in
+      omega (arith, limited_use k (u - n) t.0 w bits left t.2)
 
   whole_moves : moves_in (remaining_trace b form true continuation.Path (first_state 0) []).events ≡ path_moves b form
   unfolding trace_at path_moves read_at
@@ -291,34 +359,35 @@ module _ {S : Type 0} (sink : Sinks S) (b : List ℕ) (form : Form) where
   prefix_moved d = sym whole_moves ∙ (ap (λ (h : Trace). moves_in h.events) (broke_trace d) ∙ moved_bits (prefix_of d) (rest_of d))
 
   -- the output rejected an emission after these texts
-  rejects : (v mid end : SizeLimitedFmtAdapter S) (fronts : List Text) (x : Emission) (h : Trace) (e f : SinkRefused) → Prints sink v fronts (Ok tt) (record mid { references = v.references }) → Receives (printing sink b form) x mid (Err e) end
-      → PrintsUpTo sink v (fronts ++ texts_before mid.references (moves_in (after_emission (printing sink b form) (Some x) h).events)) (is_whole mid.references (moves_in (after_emission (printing sink b form) (Some x) h).events)) (Err f) end
+  rejects : (v mid end : SizeLimitedFmtAdapter S) (fronts : List Text) (x : Emission) (h : Trace) (e f : SinkRefused) → Prints sink v fronts (Ok tt) (record mid { reread = v.reread }) → Receives (printing sink b form) x mid (Err e) end
+      → PrintsUpTo sink v (fronts ++ texts_from mid (moves_in (after_emission (printing sink b form) (Some x) h).events)) (whole_from mid (moves_in (after_emission (printing sink b form) (Some x) h).events)) (Err f) end
   rejects v mid end fronts (gives s) h e f p q =
       let texts = texts_of b form s in
       let ms = moves_in h.events in
-      let both = prints_then sink v (record mid { references = v.references }) (record end { references = v.references }) fronts texts (Ok tt) (Err e) p refl (prints_anyway sink mid end texts (Err e) v.references q) in
-      let left : fronts ++ texts_before mid.references (moves_in (texts_then true texts h.events)) ≡ (fronts ++ texts) ++ texts_before mid.references ms =
-      ap (λ (zs : List Move). fronts ++ texts_before mid.references zs) (moved_said texts h.events) ∙ (ap (λ (zs : List Text). fronts ++ zs) (said_texts mid.references texts ms) ∙ sym (append_assoc fronts texts (texts_before mid.references ms))) in
-      rw left (prints_rejected sink v end (fronts ++ texts) (texts_before mid.references ms) (is_whole mid.references (moves_in (texts_then true texts h.events))) (Err e) (Err f) both refl refl)
-  rejects v mid end fronts refers_on h e f p q =
-      let none : fronts ++ texts_before mid.references (follows ∷ moves_in h.events) ≡ fronts = ap (λ (k : Option ℕ). fronts ++ texts_before k (follows ∷ moves_in h.events)) q.0 ∙ append-nil fronts in
-      let short : is_whole mid.references (follows ∷ moves_in h.events) ≡ false = ap (λ (k : Option ℕ). is_whole k (follows ∷ moves_in h.events)) q.0 in
-      rw (none, short) (prints_short sink v mid end fronts e p q (Err f) refl)
+      let both = prints_then sink v (record mid { reread = v.reread }) (record end { reread = v.reread }) fronts texts (Ok tt) (Err e) p refl (prints_anyway sink mid end texts (Err e) v.reread q) in
+      let left : fronts ++ texts_from mid (moves_in (texts_then true texts h.events)) ≡ (fronts ++ texts) ++ texts_from mid ms =
+      ap (λ (zs : List Move). fronts ++ texts_from mid zs) (moved_said texts h.events) ∙ (ap (λ (zs : List Text). fronts ++ zs) (said_texts mid.reread.most (length b) mid.reread.used texts ms) ∙ sym (append_assoc fronts texts (texts_from mid ms))) in
+      rw left (prints_rejected sink v end (fronts ++ texts) (texts_from mid ms) (whole_from mid (moves_in (texts_then true texts h.events))) (Err e) (Err f) both refl refl)
+  rejects v mid end fronts (refers_on a) h e f p q =
+      let ms = moves_in h.events in
+      let none : fronts ++ texts_from mid (follows a ∷ ms) ≡ fronts = ap (λ (xs : List Text). fronts ++ xs) (over_texts mid.reread.most (length b) mid.reread.used a ms q.0) ∙ append-nil fronts in
+      rw (none, over_whole mid.reread.most (length b) mid.reread.used a ms q.0) (prints_short sink v mid end fronts (length b - a + 1) e p q (Err f) refl)
+  rejects v mid end fronts (ends_at x) h e f p q = absurd q
 
   abbrev PrintsPath : SizeLimitedFmtAdapter S → Result (Unit {0}) SinkRefused → SizeLimitedFmtAdapter S → Type 0
-  PrintsPath v result w = PrintsUpTo sink v (path_texts_before v.references b form) (is_path_whole v.references b form) result w
+  PrintsPath v result w = PrintsUpTo sink v (texts_from v (path_moves b form)) (whole_from v (path_moves b form)) result w
 
   pub prints_so : {v w : SizeLimitedFmtAdapter S} {m n : ℕ} (result : Result (Unit {0}) SinkRefused) → Ready sink v → Ended (printing sink b form) continuation.Path (begun v m) result w n → PrintsPath v result w
   prints_so {v} {w} (Ok u) ready z =
       let r = z.ended.1 in
-      let texts : path_texts_before v.references b form ≡ action_texts r.bits = ap (texts_before v.references) (all_moved r) ∙ (limited_texts v w r.bits [] r.emits ∙ append-nil (action_texts r.bits)) in
-      let all : is_path_whole v.references b form ≡ true = ap (is_whole v.references) (all_moved r) ∙ limited_whole v w r.bits [] r.emits in
+      let texts : texts_from v (path_moves b form) ≡ action_texts r.bits = ap (texts_from v) (all_moved r) ∙ (limited_texts v w r.bits [] r.emits ∙ append-nil (action_texts r.bits)) in
+      let all : whole_from v (path_moves b form) ≡ true = ap (whole_from v) (all_moved r) ∙ limited_whole v w r.bits [] r.emits in
       rw (texts, all) (emitted_prints v w r.bits ready r.emits)
   prints_so {v} {w} (Err f) ready z =
       let d = z.ended in
       let ms = moves_in (rest_of d).events in
-      let texts : path_texts_before v.references b form ≡ action_texts (prefix_of d) ++ texts_before d.mid.output.references ms = ap (texts_before v.references) (prefix_moved d) ∙ limited_texts v d.mid.output (prefix_of d) ms (broke_emits d) in
-      let all : is_path_whole v.references b form ≡ is_whole d.mid.output.references ms = ap (is_whole v.references) (prefix_moved d) ∙ limited_whole v d.mid.output (prefix_of d) ms (broke_emits d) in
+      let texts : texts_from v (path_moves b form) ≡ action_texts (prefix_of d) ++ texts_from d.mid.output ms = ap (texts_from v) (prefix_moved d) ∙ limited_texts v d.mid.output (prefix_of d) ms (broke_emits d) in
+      let all : whole_from v (path_moves b form) ≡ whole_from d.mid.output ms = ap (whole_from v) (prefix_moved d) ∙ limited_whole v d.mid.output (prefix_of d) ms (broke_emits d) in
       rw (texts, all, sym d.same_output) (rejects v d.mid.output d.end.output (action_texts (prefix_of d)) d.halts.emitted (after_broke d) d.halts.rejection f (emitted_prints v d.mid.output (prefix_of d) ready (broke_emits d)) d.halts.prints)
 
   -- all was printed, and the place at the end is known
@@ -337,21 +406,21 @@ module _ {S : Type 0} (sink : Sinks S) (b : List ℕ) (form : Form) where
       → action_texts bits ++ rest ≡ all → n ≤ m + (action_looks bits + 2) → n ≤ m + 100000 * (kept all v.remaining + 1) * (length b + 1)
   bits_most v w m n bits h all rest ready t e s l =
       let done = emitted_prints v w bits ready t in
-      let bytes : size (action_texts bits) ≤ kept all v.remaining = kept_bytes sink v (record w { references = v.references }) all rest (size (action_texts bits)) (record { prefix = action_texts bits; done = done; is = s }) (omega (arith, done.within refl, done.left refl)) in
+      let bytes : size (action_texts bits) ≤ kept all v.remaining = kept_bytes sink v (record w { reread = v.reread }) all rest (size (action_texts bits)) (record { prefix = action_texts bits; done = done; is = s }) (omega (arith, done.within refl, done.left refl)) in
       let within_budget = bits_paid (looks_a_byte (length b)) (looks_before (length b)) bits h (subst (λ (g : Trace). IsWithinBudget (looks_a_byte (length b)) (looks_before (length b)) (weighed g.events) 0) e whole_paid) in
       within (length b) (size (action_texts bits)) (kept all v.remaining) m n bytes (omega (arith, l, within_budget))
 
   pub prints_most : {v w : SizeLimitedFmtAdapter S} {m n : ℕ} (result : Result (Unit {0}) SinkRefused) → Ready sink v → Ended (printing sink b form) continuation.Path (begun v m) result w n
-      → n ≤ m + 100000 * (kept (path_texts_before v.references b form) v.remaining + 1) * (length b + 1)
+      → n ≤ m + 100000 * (kept (texts_from v (path_moves b form)) v.remaining + 1) * (length b + 1)
   prints_most {v} {w} (Ok u) ready z =
       let r = z.ended.1 in
-      let texts : action_texts r.bits ++ [] ≡ path_texts_before v.references b form = sym (ap (texts_before v.references) (all_moved r) ∙ limited_texts v w r.bits [] r.emits) in
+      let texts : action_texts r.bits ++ [] ≡ texts_from v (path_moves b form) = sym (ap (texts_from v) (all_moved r) ∙ limited_texts v w r.bits [] r.emits) in
       bits_most _ _ _ _ r.bits _ _ [] ready r.emits r.reads texts (omega (arith, r.paid_looks))
   prints_most {v} (Err f) ready z =
       let d = z.ended in
       let ms = moves_in (rest_of d).events in
-      let texts : action_texts (prefix_of d) ++ texts_before d.mid.output.references ms ≡ path_texts_before v.references b form = sym (ap (texts_before v.references) (prefix_moved d) ∙ limited_texts v d.mid.output (prefix_of d) ms (broke_emits d)) in
-      bits_most _ _ _ _ (prefix_of d) _ _ (texts_before d.mid.output.references ms) ready (broke_emits d) (broke_trace d) texts (broke_enough d)
+      let texts : action_texts (prefix_of d) ++ texts_from d.mid.output ms ≡ texts_from v (path_moves b form) = sym (ap (texts_from v) (prefix_moved d) ∙ limited_texts v d.mid.output (prefix_of d) ms (broke_emits d)) in
+      bits_most _ _ _ _ (prefix_of d) _ _ (texts_from d.mid.output ms) ready (broke_emits d) (broke_trace d) texts (broke_enough d)
 
   -- The looks and what is read again.
 
@@ -371,21 +440,20 @@ module _ {S : Type 0} (sink : Sinks S) (b : List ℕ) (form : Form) where
   prints_again (Ok u) z = let r = z.ended.1 in bits_again _ _ r.bits _ r.reads (omega (arith, r.paid_looks))
   prints_again (Err f) z = let d = z.ended in bits_again _ _ (prefix_of d) _ (broke_trace d) (broke_enough d)
 
-  -- The looks and the references that are followed.
+  -- The looks and the bytes that are read again.
 
   whole_dues : IsWithinBudget 17 (17 * (length b + 1)) (dues (length b) (remaining_trace b form true continuation.Path (first_state 0) []).events) 0
   unfolding trace_at read_at
   whole_dues =
       subst (λ (h : Trace). IsWithinBudget 17 (17 * (length b + 1)) (dues (length b) h.events) 0) (sym (remaining_trace-empty_stack b form true continuation.Path (first_state 0))) (path_dues b form)
 
-  bits_few : (k m n : ℕ) (v w : SizeLimitedFmtAdapter S) (bits : List Action) (h : Trace) → v.references ≡ Some k → Emitted (printing sink b form) bits v w → remaining_trace b form true continuation.Path (first_state 0) [] ≡ with_actions true bits h
-      → n ≤ m + (action_looks bits + 2) → n ≤ m + 20 * (length b + 1) * (k + 1)
+  bits_few : (k m n : ℕ) (v w : SizeLimitedFmtAdapter S) (bits : List Action) (h : Trace) → v.reread.most ≡ Some k → Emitted (printing sink b form) bits v w → remaining_trace b form true continuation.Path (first_state 0) [] ≡ with_actions true bits h
+      → n ≤ m + (action_looks bits + 2) → n ≤ m + 20 * (length b + 1 + k)
   bits_few k m n v w bits h e t q l =
-      let due : action_looks bits ≤ 17 * (length b + 1) + 17 * ((length b + 1) * references_in bits) = bits_due (17 * (length b + 1)) (length b) bits h (subst (λ (g : Trace). IsWithinBudget 17 (17 * (length b + 1)) (dues (length b) g.events) 0) q whole_dues) in
-      let few : (length b + 1) * references_in bits ≤ (length b + 1) * k = mul-le-mul_left (length b + 1) (limited_references k v w bits e t) in
-      omega (arith, l, due, few)
+      let due : action_looks bits + 17 * given_in (length b) bits ≤ 17 * (length b + 1) + 17 * used_in (length b) bits = bits_due (17 * (length b + 1)) (length b) bits h (subst (λ (g : Trace). IsWithinBudget 17 (17 * (length b + 1)) (dues (length b) g.events) 0) q whole_dues) in
+      omega (arith, l, due, limited_use k v.reread.used v w bits (ap (λ (z : Option ℕ). record { most = z; used = v.reread.used }) e) t)
 
-  pub prints_few : {v w : SizeLimitedFmtAdapter S} {m n : ℕ} (k : ℕ) (result : Result (Unit {0}) SinkRefused) → v.references ≡ Some k → Ended (printing sink b form) continuation.Path (begun v m) result w n
-      → n ≤ m + 20 * (length b + 1) * (k + 1)
+  pub prints_few : {v w : SizeLimitedFmtAdapter S} {m n : ℕ} (k : ℕ) (result : Result (Unit {0}) SinkRefused) → v.reread.most ≡ Some k → Ended (printing sink b form) continuation.Path (begun v m) result w n
+      → n ≤ m + 20 * (length b + 1 + k)
   prints_few k (Ok u) e z = let r = z.ended.1 in bits_few k _ _ _ _ r.bits _ e r.emits r.reads (omega (arith, r.paid_looks))
   prints_few k (Err f) e z = let d = z.ended in bits_few k _ _ _ _ (prefix_of d) _ e (broke_emits d) (broke_trace d) (broke_enough d)

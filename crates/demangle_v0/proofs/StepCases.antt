@@ -5,13 +5,13 @@ use Rattle.std.proofs.lemmas.List.{append-nil, length-append}
 use Rattle.std.proofs.Common.{inl, inr, ◌≡◌, ℕ, ◌+◌, ◌≤◌, length, Bool, true, false, Option, Some, None, List, [], ◌∷◌, ◌++◌, Result, Ok, Err, IsOk, refl, arith, sym, ap, ◌∙◌}
 use Rattle.demangle_v0_grammar.specs.Items.{Items, Kind, child, done}
 use Rattle.demangle_v0_grammar.specs.LookTotals.{total}
-use Rattle.demangle_v0_grammar.specs.Traces.{Trace, of, empty_trace, and_then, with_looks, with_texts, context_at, with_reference}
+use Rattle.demangle_v0_grammar.specs.Traces.{Trace, of, empty_trace, and_then, with_looks, with_texts, context_at}
 use Rattle.demangle_v0_tokens.specs.Tokens.{texts_of, TokenSpec, token_spec}
 use Rattle.demangle_v0_tokens.specs.Texts.{text, token_items}
 use Rattle.demangle_v0_grammar.specs.Reading.{Place, unit_outcome, parse}
 use Rattle.demangle_v0.specs.Traces.{pending_texts, then_frame, trace_of_frame, pushed_on, trace_of_state, trace_at, with_closed_bracket}
 use Rattle.demangle_v0.specs.Measure.{weight_left, weight_at, weight_of, is_inner, height_of, count_of, FitsFrame, IsInner, Fits, height_at}
-use Rattle.demangle_v0.specs.Steps.{Machine, Env, StepPart, part, StepResult, Continued, Performs, LooksWithin, step_looks_bound, PerformsRest, gives, refers_on}
+use Rattle.demangle_v0.specs.Steps.{Machine, Env, StepPart, part, StepResult, Continued, Performs, LooksWithin, step_looks_bound, PerformsRest, Emission, gives, after_emission, Receives}
 use Rattle.demangle_v0.specs.Continuations.{list_costs}
 use Rattle.demangle_sink.specs.declared.SinkRefused.{SinkRefused}
 use Rattle.demangle_v0_tokens.specs.declared.fixed_texts.FixedText.{FixedText}
@@ -227,18 +227,18 @@ module _ {V : Type 0} {e : Env V} where
     if_ok = λ _ m k. absurd (no_fault m k);
   }
 
-  -- A reference is followed.
-  pub follows_on : {t : Machine V} {h : Trace} {words weight high : ℕ} (to : Continuation) (prefix : List ℕ) → length prefix ≤ words → (pushed : Option Frame) {s : State} {stack : List Frame} {v : V} {n : ℕ}
-      → h ≡ with_looks prefix (with_reference e.output.is_printed (then_frame e.symbol e.form e.output.is_printed pushed (trace_of_state e.symbol e.form e.output.is_printed to s)))
-      → e.output.follows t.output (Ok tt) v → (e.output.ready t.output → e.output.ready v) → s.pending_text ≡ None
+  -- The output receives something, and no text is pending.
+  pub receives_on : {t : Machine V} {h : Trace} {words weight high : ℕ} (to : Continuation) (prefix : List ℕ) → length prefix ≤ words → (x : Emission) (pushed : Option Frame) {s : State} {stack : List Frame} {v : V} {n : ℕ}
+      → h ≡ with_looks prefix (after_emission e (Some x) (then_frame e.symbol e.form e.output.is_printed pushed (trace_of_state e.symbol e.form e.output.is_printed to s)))
+      → Receives e x t.output (Ok tt) v → (e.output.ready t.output → e.output.ready v) → s.pending_text ≡ None
       → stack ≡ pushed_on t.stack pushed → LooksWithin t.looks prefix n → n ≤ t.looks + step_looks_bound e.symbol t.state.place
       → weight_left to + weight_of pushed + 1 ≤ weight + 100 * total prefix
       → height_of pushed ≤ high → height_at to s.depth_left + count_of pushed ≤ high → FitsFrame pushed → Fits to s.depth_left s.lifetimes → (e.output.is_printed ≡ false → IsInner pushed)
       → Performs e t (part words h weight high) (Ok to) (record t { state = s; stack = stack; output = v; looks = n })
-  follows_on to prefix c pushed r put still k q p short w x y f g i = record {
+  receives_on to prefix c x pushed r put still k q p short w y z f g i = record {
     comes = record {
       prefix = prefix;
-      emitted = Some refers_on;
+      emitted = Some x;
       back = [];
       pushed = pushed;
       emits = put;
@@ -249,28 +249,28 @@ module _ {V : Type 0} {e : Env V} where
       paid_looks = omega (arith, p.within);
       looks_at_refusal = omega (arith, p.within);
       lighter = omega (arith, w);
-      outer_height = x;
-      inner_height = y;
+      outer_height = y;
+      inner_height = z;
       outer_fits = f;
       inner_fits = g;
       no_output = i;
     };
     grows = p.grows;
     own_looks = short;
-    ready = λ z _. still z;
-    if_ok = λ z m e. absurd (ok_fault m e);
+    ready = λ a _. still a;
+    if_ok = λ a m e. absurd (ok_fault m e);
   }
     where
       ok_fault : (m : FixedText) → Ok to ≡ Err (Abort m) → ⊥
       ok_fault m z = cc
 
-  -- No further reference may be followed.
-  pub follows_no_more : {t : Machine V} {h : Trace} {words weight high : ℕ} (prefix : List ℕ) → length prefix ≤ words → (rest : Trace) {s : State} {v : V} {n : ℕ} {r : SinkRefused}
-      → h ≡ with_looks prefix (with_reference e.output.is_printed rest) → e.output.follows t.output (Err r) v
+  -- The output rejects it.
+  pub receives_no_more : {t : Machine V} {h : Trace} {words weight high : ℕ} (prefix : List ℕ) → length prefix ≤ words → (x : Emission) (rest : Trace) {s : State} {v : V} {n : ℕ} {r : SinkRefused}
+      → h ≡ with_looks prefix (after_emission e (Some x) rest) → Receives e x t.output (Err r) v
       → (e.output.is_printed ≡ false → rest.place ≡ None) → LooksWithin t.looks prefix n → n ≤ t.looks + step_looks_bound e.symbol t.state.place
       → Performs e t (part words h weight high) (Err Sink) (record t { state = s; output = v; looks = n })
-  follows_no_more {t} prefix c rest {r = f} r q i p short = record {
-    comes = (record { prefix = prefix; emitted = refers_on; rest = rest; rejection = f; prints = q; reads = r; primitive_count = c; paid_looks = omega (arith, p.within); exact = λ _. p.within; fails = i }, kept_none t.stack);
+  receives_no_more {t} prefix c x rest {r = f} r q i p short = record {
+    comes = (record { prefix = prefix; emitted = x; rest = rest; rejection = f; prints = q; reads = r; primitive_count = c; paid_looks = omega (arith, p.within); exact = λ _. p.within; fails = i }, kept_none t.stack);
     grows = p.grows;
     own_looks = short;
     ready = λ _ k. absurd (false≢true k);

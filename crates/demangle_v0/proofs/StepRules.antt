@@ -3,11 +3,11 @@ use Rattle.std.proofs.lemmas.List.{append-nil}
 use Rattle.std.proofs.Common.{◌≡◌, ℕ, ◌+◌, ◌≤◌, Bool, false, List, [], ◌∷◌, ◌++◌, Result, Err, refl, arith, sym, ap, ◌∙◌}
 use Rattle.demangle_v0_grammar.specs.Items.{Items, Kind, child, done}
 use Rattle.demangle_v0_grammar.specs.LookTotals.{total}
-use Rattle.demangle_v0_grammar.specs.Traces.{Event, allows, looks_then, Trace, of, events, empty_trace, with_looks, with_reference, with_texts, context_at}
+use Rattle.demangle_v0_grammar.specs.Traces.{Event, allows, looks_then, Trace, of, events, empty_trace, with_looks, with_reference, with_end, with_texts, context_at}
 use Rattle.demangle_v0_tokens.specs.Tokens.{TokenSpec, token_spec}
 use Rattle.demangle_v0_tokens.specs.Texts.{token_items}
 use Rattle.demangle_v0_grammar.specs.Reading.{Form, Place, parse, unit_outcome}
-use Rattle.demangle_v0.specs.Traces.{Action, allows_looks, goes_back, puts, with_actions, action_looks, with_closed_bracket}
+use Rattle.demangle_v0.specs.Traces.{Action, allows_looks, goes_back, comes_back, puts, with_actions, action_looks, with_closed_bracket}
 use Rattle.demangle_v0.specs.Measure.{weight_left, weight_at}
 use Rattle.demangle_v0.specs.Steps.{KeepsFrames}
 use Rattle.demangle_sink.specs.declared.SinkRefused.{SinkRefused}
@@ -24,13 +24,15 @@ pub bits_append : (out : Bool) (xs ys : List Action) (h : Trace) → with_action
 bits_append out [] ys h = refl
 bits_append out (allows_looks k ∷ xs) ys h = ap (with_looks k) (bits_append out xs ys h)
 bits_append out (puts ts ∷ xs) ys h = ap (with_texts out ts) (bits_append out xs ys h)
-bits_append out (goes_back ∷ xs) ys h = ap (with_reference out) (bits_append out xs ys h)
+bits_append out (goes_back t ∷ xs) ys h = ap (with_reference out t) (bits_append out xs ys h)
+bits_append out (comes_back e ∷ xs) ys h = ap (with_end out e) (bits_append out xs ys h)
 
 pub looks_append : (xs ys : List Action) → action_looks (xs ++ ys) ≡ action_looks xs + action_looks ys
 looks_append [] ys = omega arith
 looks_append (allows_looks k ∷ xs) ys = omega (arith, looks_append xs ys)
 looks_append (puts ts ∷ xs) ys = looks_append xs ys
-looks_append (goes_back ∷ xs) ys = looks_append xs ys
+looks_append (goes_back t ∷ xs) ys = looks_append xs ys
+looks_append (comes_back e ∷ xs) ys = looks_append xs ys
 
 pub looks_both : (ks ls : List ℕ) (h : Trace) → with_looks (ks ++ ls) h ≡ with_looks ks (with_looks ls h)
 looks_both ks ls h = ap (λ (xs : List Event). record { events = xs; place = h.place; is_bracket_open = h.is_bracket_open }) (go ks)

@@ -1,8 +1,9 @@
 -- Internal: no public contract cites this.
 -- What is known of a symbol whose first path was printed before it was validated.
-use Rattle.std.specs.Prelude.{◌≡◌, ℕ, List, Some, None, Ok, Result}
+use Rattle.std.specs.Prelude.{◌≡◌, ℕ, Bool, List, length, Some, None, Ok, Result}
+use Rattle.demangle_v0_grammar.specs.Items.{Text}
 use Rattle.demangle_v0_grammar.specs.Reading.{Form, suffix_place}
-use Rattle.demangle_v0_grammar.specs.References.{path_texts_before, is_path_whole}
+use Rattle.demangle_v0_grammar.specs.References.{texts_before, is_whole, path_moves}
 use Rattle.demangle_sink.specs.Limit.{PrintsUpTo}
 use Rattle.demangle_sink.specs.declared.SinkRefused.{SinkRefused}
 use Rattle.demangle_sink.specs.declared.TextSink.{Ghosts as Sinks}
@@ -17,11 +18,19 @@ SuffixOf b (attempt.Read place) = Some place ≡ suffix_place b
 SuffixOf b attempt.NoPath = suffix_place b ≡ None
 SuffixOf b attempt.Unknown = Unit {0}
 
+-- the texts of the first path of a symbol, up to the limit of the bytes that an output allows to read again, and whether
+-- they are all
+abbrev pub texts_for : {S : Type 0} → SizeLimitedFmtAdapter S → List ℕ → Form → List Text
+texts_for v symbol form = texts_before v.reread.most (length symbol) v.reread.used (path_moves symbol form)
+
+abbrev pub is_whole_for : {S : Type 0} → SizeLimitedFmtAdapter S → List ℕ → Form → Bool
+is_whole_for v symbol form = is_whole v.reread.most (length symbol) v.reread.used (path_moves symbol form)
+
 -- printing the first path of a symbol returned `result`
 abbrev pub PrintsPath : {S : Type 0} → Sinks S → SizeLimitedFmtAdapter S → List ℕ → Form → Result (Unit {0}) SinkRefused → SizeLimitedFmtAdapter S → Type 0
-PrintsPath sink v symbol form result w = PrintsUpTo sink v (path_texts_before v.references symbol form) (is_path_whole v.references symbol form) result w
+PrintsPath sink v symbol form result w = PrintsUpTo sink v (texts_for v symbol form) (is_whole_for v symbol form) result w
 
--- if the path was printed, all of its texts, and not more references were followed than are allowed
+-- if the path was printed, all of its texts, and no more bytes were read again than are allowed
 abbrev pub PrintsIfPrinted : {S : Type 0} → Sinks S → SizeLimitedFmtAdapter S → List ℕ → Form → Attempt → SizeLimitedFmtAdapter S → Type 0
 PrintsIfPrinted sink v symbol form (attempt.Printed place) w = PrintsPath sink v symbol form (Ok tt) w
 PrintsIfPrinted sink v symbol form _ w = Unit {0}

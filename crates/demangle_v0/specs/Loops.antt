@@ -1,18 +1,19 @@
 -- Internal: no public contract cites this.
 -- The effect of steps on a whole stack of frames.
-use Rattle.std.specs.Prelude.{◌≡◌, ℕ, ◌+◌, ◌≤◌, ◌<◌, min, true, false, Option, Some, None, List, [], ◌∷◌, ◌++◌, length, Result, Ok, Err, IsOk}
+use Rattle.std.specs.Prelude.{◌≡◌, ℕ, ◌+◌, ◌-◌, ◌≤◌, ◌<◌, min, true, false, Option, Some, None, List, [], ◌∷◌, ◌++◌, length, Result, Ok, Err, IsOk}
 use Rattle.demangle_v0_grammar.specs.Traces.{Trace}
 use Rattle.demangle_v0_tokens.specs.Texts.{text}
 use Rattle.demangle_v0.specs.Frames as heights
 use Rattle.demangle_v0.specs.Skips.{is_skipped, skipped_continuation, after_skip}
 use Rattle.demangle_v0_tokens.specs.declared.fixed_texts.FixedText.{FixedText}
 use Rattle.demangle_sink.specs.declared.SinkRefused.{SinkRefused}
-use Rattle.demangle_v0.specs.Traces.{Action, allows_looks, goes_back, puts, with_actions, action_looks, remaining_trace}
+use Rattle.demangle_v0.specs.Traces.{Action, allows_looks, goes_back, comes_back, puts, with_actions, action_looks, remaining_trace}
 use Rattle.demangle_v0.specs.Steps.{Env, env, whole, Machine, machine, Continued, Stopped, KeepsFrames, resumed_of}
 use Rattle.demangle_v0.specs.Measure.{AllInner, Fits, height_at, most_frames}
 use Rattle.demangle_v0_grammar.specs.LookTotals.{allowed_in}
+use Rattle.demangle_v0_grammar.specs.References.{bytes_after}
 use Rattle.demangle_v0_grammar.specs.Reading.{Form, Place, max_depth}
-use Rattle.demangle_sink.specs.Limit.{Follows, Prints, Ready}
+use Rattle.demangle_sink.specs.Limit.{Follows, GivesBack, Prints, Ready}
 use Rattle.demangle_sink.specs.declared.TextSink.{Ghosts as Sinks}
 use Rattle.demangle_sink.specs.declared.limit.SizeLimitedFmtAdapter.{SizeLimitedFmtAdapter}
 use Rattle.demangle_v0.specs.declared.parser.Continuation.{Continuation}
@@ -90,7 +91,8 @@ abbrev pub Emitted : {V : Type 0} → Env V → List Action → V → V → Type
 Emitted env [] v w = v ≡ w
 Emitted env (allows_looks k ∷ bits) v w = Emitted env bits v w
 Emitted {V = V} env (puts ts ∷ bits) v w = (mid : V) × env.output.prints v ts (Ok tt) mid × Emitted env bits mid w
-Emitted {V = V} env (goes_back ∷ bits) v w = (mid : V) × env.output.follows v (Ok tt) mid × Emitted env bits mid w
+Emitted {V = V} env (goes_back t ∷ bits) v w = (mid : V) × env.output.follows v (length env.symbol - t + 1) (Ok tt) mid × Emitted env bits mid w
+Emitted {V = V} env (comes_back e ∷ bits) v w = (mid : V) × env.output.gives_back v (bytes_after (length env.symbol) e) mid × Emitted env bits mid w
 
 -- steps lead from `before` to `after`, and make no more looks than their trace allows
 pub record RanSteps {V : Type 0} (env : Env V) (p : Continuation) (before : Machine V) (q : Continuation) (after : Machine V) : Type 0 where
@@ -113,7 +115,7 @@ pub record StoppedAfter {V : Type 0} (env : Env V) (p : Continuation) (before : 
 -- A parse without output, above other frames.
 
 abbrev pub no_output_env : List ℕ → Form → Env NoOutput
-no_output_env b form = env (record { is_printed = false; ready = λ v. Unit {0}; prints = λ v texts result w. Unit {0}; follows = λ v result w. Unit {0} }) b form
+no_output_env b form = env (record { is_printed = false; ready = λ v. Unit {0}; prints = λ v texts result w. Unit {0}; follows = λ v n result w. Unit {0}; gives_back = λ v n w. Unit {0} }) b form
 
 abbrev pub no_output_machine : State → List Frame → ℕ → Machine NoOutput
 no_output_machine s stack n = machine s stack (record {}) n
@@ -182,7 +184,7 @@ pub record StopsInPart (b : List ℕ) (form : Form) (printing : Checkpoint) (bel
 -- A parse that prints.
 
 abbrev pub printing : {S : Type 0} → Sinks S → List ℕ → Form → Env (SizeLimitedFmtAdapter S)
-printing sink b form = env (record { is_printed = true; ready = λ v. Ready sink v; prints = λ v texts result w. Prints sink v texts result w; follows = λ v result w. Follows v result w }) b form
+printing sink b form = env (record { is_printed = true; ready = λ v. Ready sink v; prints = λ v texts result w. Prints sink v texts result w; follows = λ v n result w. Follows v n result w; gives_back = λ v n w. GivesBack v n w }) b form
 
 -- printing stopped in an impl path, which was read up to `inner`
 pub record PrintingInPart {V : Type 0} (env : Env V) (p : Continuation) (before : Machine V) (base : ℕ) (inner r : Checkpoint) (now : List Frame) (w : V) (looks : ℕ) : Type 0 where

@@ -166,7 +166,7 @@ Followed output p m v result k w =
 
 -- An output that never receives a token, whether it prints or not.
 abbrev pub unused_output : Bool → Ghosts (Unit {0})
-unused_output is_printed = record { is_printed = is_printed; ready = λ v. Unit {0}; prints = λ v texts result w. ⊥; follows = λ v result w. ⊥ }
+unused_output is_printed = record { is_printed = is_printed; ready = λ v. Unit {0}; prints = λ v texts result w. ⊥; follows = λ v n result w. ⊥; gives_back = λ v n w. ⊥ }
 
 -- when a continuation may run that emits nothing, and its effect
 abbrev pub CanAdvance : Continuation → Parser → Type 0
@@ -268,9 +268,9 @@ PrintsSteps sink m v result k w = PrintDone (printing_of sink m) m.continuation 
 abbrev pub PrintsAll : {S : Type 0} → Sinks S → Parser → SizeLimitedFmtAdapter S → Result (Unit {0}) SinkRefused → Parser → SizeLimitedFmtAdapter S → Type 0
 PrintsAll sink m v result k w = Ended (printing_of sink m) m.continuation (machine_of m v) result w k.looks
 
--- the same, with a count of looks of its own
-abbrev pub PrintsApart : {S : Type 0} → Sinks S → Parser → SizeLimitedFmtAdapter S → Result (Unit {0}) SinkRefused → SizeLimitedFmtAdapter S → Type 0
-PrintsApart sink m v result w = (n : ℕ) × Ended (printing_of sink m) m.continuation (machine_of (looked m 0) v) result w n
+-- the same, with a count of looks of its own, which was `old` and is `new`
+abbrev pub PrintsApart : {S : Type 0} → Sinks S → Parser → SizeLimitedFmtAdapter S → Result (Unit {0}) SinkRefused → SizeLimitedFmtAdapter S → (old new : ℕ) → Type 0
+PrintsApart sink m v result w old new = Ended (printing_of sink m) m.continuation (machine_of (looked m old) v) result w new
 
 -- the same for the unfinished part of a text
 abbrev pub PrintsOn : {S : Type 0} → Sinks S → Parser → Unfinished → SizeLimitedFmtAdapter S → Result (Option Unfinished) SinkRefused → Parser → SizeLimitedFmtAdapter S → Type 0

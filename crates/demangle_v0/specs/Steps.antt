@@ -4,7 +4,8 @@ use Rattle.std.specs.Prelude.{Err, IsAscii, IsOk, List, None, Ok, Option, Result
 use Rattle.demangle_v0_grammar.specs.Items.{Items}
 use Rattle.demangle_v0_grammar.specs.Reading.{Form, Place, parse}
 use Rattle.demangle_v0_grammar.specs.LookTotals.{total}
-use Rattle.demangle_v0_grammar.specs.Traces.{Trace, context_at, empty_trace, of, with_looks, with_reference, with_texts}
+use Rattle.demangle_v0_grammar.specs.References.{bytes_after}
+use Rattle.demangle_v0_grammar.specs.Traces.{Trace, context_at, empty_trace, of, with_end, with_looks, with_reference, with_texts}
 use Rattle.demangle_v0_tokens.specs.Texts.{text}
 use Rattle.demangle_v0_tokens.specs.Tokens.{texts_of}
 use Rattle.demangle_v0_tokens.specs.declared.fixed_texts.FixedText.{FixedText}
@@ -50,27 +51,31 @@ pub record StepPart : Type 0 where
 abbrev pub part : ℕ → Trace → ℕ → ℕ → StepPart
 part words h weight height = record { words = words; trace = h; weight = weight; height = height }
 
--- what the output receives: a token, or that a reference is followed
+-- what the output receives: a token, that a reference is followed to a place, or that what it leads to ends
 pub data Emission : Type 0 where
   gives : Token → Emission
-  refers_on : Emission
+  refers_on : ℕ → Emission
+  ends_at : Place → Emission
 
 -- the trace after an emission, if there was one
 abbrev pub after_emission : {V : Type 0} → Env V → Option Emission → Trace → Trace
 after_emission env None h = h
 after_emission env (Some (gives s)) h = with_texts env.output.is_printed (texts_of env.symbol env.form s) h
-after_emission env (Some refers_on) h = with_reference env.output.is_printed h
+after_emission env (Some (refers_on t)) h = with_reference env.output.is_printed t h
+after_emission env (Some (ends_at e)) h = with_end env.output.is_printed e h
 
 abbrev pub Receives : {V : Type 0} → Env V → Emission → V → Result (Unit {0}) SinkRefused → V → Type 0
 Receives env (gives s) v result w = env.output.prints v (texts_of env.symbol env.form s) result w
-Receives env refers_on v result w = env.output.follows v result w
+Receives env (refers_on t) v result w = env.output.follows v (length env.symbol - t + 1) result w
+Receives env (ends_at e) v (Ok u) w = env.output.gives_back v (bytes_after (length env.symbol) e) w
+Receives env (ends_at e) v (Err f) w = ⊥
 
 abbrev pub Emits : {V : Type 0} → Env V → Option Emission → V → V → Type 0
 Emits env None v w = v ≡ w
 Emits env (Some x) v w = Receives env x v (Ok tt) w
 
--- The step continues at another continuation, and may have pushed a frame. It emits a token, follows a reference, or
--- prints the pending text, but no two of these.
+-- The step continues at another continuation, and may have pushed a frame. It emits a token, follows a reference or ends
+-- one, or prints the pending text, but no two of these.
 pub record Continued {V : Type 0} (env : Env V) (part : StepPart) (before : Machine V) (to : Continuation) (after : Machine V) : Type 0 where
   pub prefix : List ℕ
   pub emitted : Option Emission

@@ -4,7 +4,7 @@ use Rattle.std.specs.Prelude.{Bool, List, None, Option, Some, [], false, ℕ, �
 use Rattle.demangle_v0_grammar.specs.Items.{Text, a_constant, a_path, a_pattern, a_trait_path, a_type}
 use Rattle.demangle_v0_grammar.specs.Reading.{Form, Place, parse, unit_outcome}
 use Rattle.demangle_v0_grammar.specs.LookTotals.{total}
-use Rattle.demangle_v0_grammar.specs.Traces.{Trace, and_then, context_at, empty_trace, of, with_looks, with_reference, with_texts}
+use Rattle.demangle_v0_grammar.specs.Traces.{Trace, and_then, context_at, empty_trace, of, with_end, with_looks, with_reference, with_texts}
 use Rattle.demangle_v0_tokens.specs.Texts.{text}
 use Rattle.demangle_v0_tokens.specs.declared.fixed_texts.FixedText.{FixedText}
 use Rattle.demangle_v0.specs.declared.parser.Continuation.{Continuation}
@@ -20,7 +20,7 @@ with_closed_bracket h = record h { is_bracket_open = false }
 -- the remaining trace of a continuation: the rest of its production
 unfoldable pub trace_at : List ℕ → Form → Bool → Continuation → Bool → ℕ → ℕ → ℕ → Place → Bool → Trace
 trace_at b form out continuation.End v c left n i o = empty_trace i o
-trace_at b form out continuation.AfterBackref v c left n i o = empty_trace (Some n) o
+trace_at b form out continuation.AfterBackref v c left n i o = with_end out i (empty_trace (Some n) o)
 trace_at b form out continuation.Path v c left n i o = with_closed_bracket (of form out (unit_outcome (context_at b form out left n) a_path v i))
 trace_at b form out continuation.«Type» v c left n i o = with_closed_bracket (of form out (unit_outcome (context_at b form out left n) a_type false i))
 trace_at b form out continuation.Constant v c left n i o = with_closed_bracket (of form out (unit_outcome (context_at b form out left n) a_constant v i))
@@ -56,29 +56,34 @@ frame_at p s = frame_of p s.in_value s.letter s.depth_left s.lifetimes
 
 -- Parts of a step.
 
--- a part of a step: it allows these looks, it prints these texts, or it follows a reference
+-- a part of a step: it allows these looks, it prints these texts, it follows a reference to a place, or it ends what a
+-- reference leads to
 pub data Action : Type 0 where
   allows_looks : List ℕ → Action
   puts : List Text → Action
-  goes_back : Action
+  goes_back : ℕ → Action
+  comes_back : Place → Action
 
 abbrev pub with_actions : Bool → List Action → Trace → Trace
 with_actions out [] h = h
 with_actions out (allows_looks ks ∷ bits) h = with_looks ks (with_actions out bits h)
 with_actions out (puts ts ∷ bits) h = with_texts out ts (with_actions out bits h)
-with_actions out (goes_back ∷ bits) h = with_reference out (with_actions out bits h)
+with_actions out (goes_back t ∷ bits) h = with_reference out t (with_actions out bits h)
+with_actions out (comes_back e ∷ bits) h = with_end out e (with_actions out bits h)
 
 abbrev pub action_looks : List Action → ℕ
 action_looks [] = 0
 action_looks (allows_looks ks ∷ bits) = total ks + action_looks bits
 action_looks (puts ts ∷ bits) = action_looks bits
-action_looks (goes_back ∷ bits) = action_looks bits
+action_looks (goes_back t ∷ bits) = action_looks bits
+action_looks (comes_back e ∷ bits) = action_looks bits
 
 abbrev pub action_texts : List Action → List Text
 action_texts [] = []
 action_texts (allows_looks k ∷ bits) = action_texts bits
 action_texts (puts ts ∷ bits) = ts ++ action_texts bits
-action_texts (goes_back ∷ bits) = action_texts bits
+action_texts (goes_back t ∷ bits) = action_texts bits
+action_texts (comes_back e ∷ bits) = action_texts bits
 
 -- the pending text, which the step still has to print
 abbrev pub pending_texts : Option FixedText → List Text

@@ -1,14 +1,14 @@
 //! v0 symbols (RFC 2603): a prefix, one path or two, then a suffix.
 #![tactic(auto)]
 
-ghost use Rattle.std.specs.Prelude.{◌≡◌, ◌+◌, ◌-◌, ◌*◌, ◌≤◌, IfOk, IfSome, IfNone, OnErr, OnSome, Ok, Some, None, IsTrue, IsAscii, false, length, option_map};
+ghost use Rattle.std.specs.Prelude.{◌≡◌, ℕ, ◌+◌, ◌-◌, ◌*◌, ◌≤◌, IfOk, IfSome, IfNone, OnErr, OnSome, Ok, Some, None, IsTrue, IsAscii, false, length, option_map};
 ghost use Rattle.demangle_v0_grammar.specs.V0.{v0_inner, v0_of};
 ghost use Rattle.demangle_sink.specs.Limit.{Ready};
 ghost use Rattle.demangle_v0.specs.Printed.{HasLengthsWithin, IsKnown};
 
 use crate::validation::{Attempt, begins_path, print_to_suffix, suffix_at};
 use demangle_sink::{SizeLimitedFmtAdapter, TextSink};
-use demangle_symbol::cursor::{Looks, ParseError, Symbol};
+use demangle_symbol::cursor::{Looks, ParseError, RunLooks, Symbol};
 use demangle_symbol::form::Form;
 use demangle_v0_tokens::source::Source;
 
@@ -139,21 +139,25 @@ pub fn demangle_printed<'s, S: TextSink>(
     s: &'s str,
     out: &mut SizeLimitedFmtAdapter<'_, S>,
     form: Form,
-    looks: &mut Looks,
+    looks: &mut RunLooks,
 ) -> Printed<'s>
     requires ascii { IsAscii s.now }
     requires ready { Ready S.TextSink out.old }
     ensures known { IsKnown S.TextSink s.now out.old form result out.new }
     ensures inner { HasLengthsWithin (length s.now) result }
-    ensures grows { looks.old ≤ looks.new }
-    ensures most { looks.new ≤ looks.old + 134 * (length s.now + 1) }
-    ensures early { result ≡ Printed.Unknown → looks.new ≤ looks.old + 85 * (length s.now + 1) + 8 }
+    ensures grows { looks.old.accepting_looks ≤ looks.new.accepting_looks }
+    ensures most { looks.new.accepting_looks ≤ looks.old.accepting_looks + 134 * (length s.now + 1) }
+    ensures early { result ≡ Printed.Unknown →
+        looks.new.accepting_looks ≤ looks.old.accepting_looks + 85 * (length s.now + 1) + 8 }
+    ensures apart { looks.old.printing_looks ≤ looks.new.printing_looks }
+    ensures few { (most : ℕ) → out.old.reread.most ≡ Some most →
+        looks.new.printing_looks ≤ looks.old.printing_looks + 20 * (length s.now + 1 + most) }
 {
-    let Some(inner) = ascii_inner_of(s, true, looks) else {
+    let Some(inner) = ascii_inner_of(s, true, &mut looks.accepting_looks) else {
         return Printed::NoSymbol;
     };
     let symbol = Symbol::new(inner);
-    if !begins_path(&symbol, 0, looks) {
+    if !begins_path(&symbol, 0, &mut looks.accepting_looks) {
         return Printed::NoSymbol;
     }
     let source = Source {

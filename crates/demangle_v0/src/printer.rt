@@ -45,14 +45,14 @@ impl Parser<'_, '_> {
                 self.continuation = continuation;
                 return Ok(Some(Unfinished::Printing));
             }
-            let Some(at) = self.resume(0, continuation) else {
+            let Some(next) = self.resume(0, continuation) else {
                 self.continuation = Continuation::End;
                 return Ok(None);
             };
             // An impl path only identifies the impl, and arguments may be folded. They are read and
             // not printed.
-            if is_skipped(at, self.source.form) {
-                self.continuation = at;
+            if is_skipped(next, self.source.form) {
+                self.continuation = next;
                 if !self.may_skip(has_budget) {
                     return Ok(Some(Unfinished::Printing));
                 }
@@ -61,7 +61,7 @@ impl Parser<'_, '_> {
                 }
                 continuation = self.continuation;
             } else {
-                continuation = self.steps(at, true, out)?;
+                continuation = self.steps(next, true, out)?;
             }
         }
         self.continuation = continuation;
@@ -223,26 +223,29 @@ impl Parser<'_, '_> {
         }
     }
 
-    /// Prints what is left of a valid symbol, in larger stacks if this one is full. It counts no
-    /// looks, since printing makes as many as in other calls.
+    /// Prints what is left of a valid symbol, in larger stacks if this one is full. Counts its looks
+    /// apart from the others.
     ///
     /// Fails at the first piece that the limit or the sink rejects.
     #[inline(never)]
     pub(crate) fn print_validated<S: TextSink>(
         &mut self,
         out: &mut SizeLimitedFmtAdapter<'_, S>,
+        printing_looks: &mut Looks,
     ) -> Result<(), SinkRefused>
         requires ascii { IsAscii self.old.source.symbol.now }
         requires ready { Ready S.TextSink out.old }
         requires valid { IsValid self.old }
         requires smaller { self.old.stack.room ≤ MIDDLE_STACK }
-        ensures ended { PrintsApart S.TextSink self.old out.old result out.new }
+        ensures ended { PrintsApart S.TextSink self.old out.old result out.new printing_looks.old
+            printing_looks.new }
+        ensures apart { printing_looks.old ≤ printing_looks.new }
         ensures looks { self.new.looks ≡ self.old.looks }
     {
         self.fuel = Fuel::none();
-        let counted = mem::replace(&mut self.looks, Looks::new());
+        let accepting = mem::replace(&mut self.looks, mem::replace(printing_looks, Looks::new()));
         let printed = self.print_path(out);
-        self.looks = counted;
+        *printing_looks = mem::replace(&mut self.looks, accepting);
         printed
     }
 }

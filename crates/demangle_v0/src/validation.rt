@@ -1,5 +1,5 @@
 //! Validates v0 symbols: parses them without output, and finds the suffix.
-ghost use Rattle.std.specs.Prelude.{◌≡◌, ◌+◌, ◌*◌, ◌≤◌, [], length, false, true, IsAscii, IfSome, IsSome, Ok, Some};
+ghost use Rattle.std.specs.Prelude.{◌≡◌, ℕ, ◌+◌, ◌*◌, ◌≤◌, [], length, false, true, IsAscii, IfSome, IsSome, Ok, Some};
 ghost use Rattle.demangle_v0_grammar.specs.Items.{a_path};
 ghost use Rattle.demangle_v0.specs.Parsers.{IsValid, Recounted, Same, all_of, trace_without_output};
 ghost use Rattle.demangle_v0.specs.Measure.{AllInner};
@@ -16,7 +16,7 @@ use crate::parser::frames::{FULL_STACK, MIDDLE_STACK, SHORT_STACK, UNUSED_FRAME}
 use crate::parser::parse::Parser;
 use crate::parser::steps::{ReadOutcome, Unfinished};
 use demangle_sink::{SizeLimitedFmtAdapter, TextSink};
-use demangle_symbol::cursor::{Looks, Symbol};
+use demangle_symbol::cursor::{Looks, RunLooks, Symbol};
 use demangle_symbol::form::Form;
 use demangle_v0_tokens::source::Source;
 
@@ -210,6 +210,7 @@ fn after_first_path(parser: &mut Parser<'_, '_>, end: usize) -> Attempt
 fn printed_first<S: TextSink>(
     parser: &mut Parser<'_, '_>,
     out: &mut SizeLimitedFmtAdapter<'_, S>,
+    printing_looks: &mut Looks,
 ) -> Attempt
     requires ascii { IsAscii parser.old.source.symbol.now }
     requires ready { Ready S.TextSink out.old }
@@ -225,6 +226,9 @@ fn printed_first<S: TextSink>(
         parser.old.source.symbol.now + 1) + 8 }
     ensures early { result ≡ Attempt.Unknown → parser.new.looks ≤ parser.old.looks + 4 * all_of parser.old.fuel +
         36 * (length parser.old.source.symbol.now + 1) + 7 }
+    ensures apart { printing_looks.old ≤ printing_looks.new }
+    ensures few { (most : ℕ) → out.old.reread.most ≡ Some most → printing_looks.new ≤
+        printing_looks.old + 20 * (length parser.old.source.symbol.now + 1 + most) }
 {
     let Ok(left) = parser.print_within(out) else {
         return Attempt::Unknown;
@@ -240,7 +244,7 @@ fn printed_first<S: TextSink>(
     }
     let is_printed = match left {
         None => true,
-        Some(Unfinished::Printing) => parser.print_validated(out).is_ok(),
+        Some(Unfinished::Printing) => parser.print_validated(out, printing_looks).is_ok(),
         Some(Unfinished::Skipping(_, _)) => false,
     };
     if is_printed {
@@ -259,22 +263,26 @@ fn printed_first<S: TextSink>(
 pub fn print_to_suffix<S: TextSink>(
     source: Source<'_>,
     out: &mut SizeLimitedFmtAdapter<'_, S>,
-    looks: &mut Looks,
+    looks: &mut RunLooks,
 ) -> Attempt
     requires ascii { IsAscii source.symbol.now }
     requires ready { Ready S.TextSink out.old }
     ensures suffix { SuffixOf source.entry.symbol.now result }
     ensures prints { PrintsIfPrinted S.TextSink out.old source.entry.symbol.now source.entry.form
         result out.new }
-    ensures grows { looks.old ≤ looks.new }
-    ensures most { looks.new ≤ looks.old + 132 * (length source.entry.symbol.now + 1) }
-    ensures early { result ≡ Attempt.Unknown → looks.new ≤ looks.old + 84 * (length
-        source.entry.symbol.now + 1) + 7 }
+    ensures grows { looks.old.accepting_looks ≤ looks.new.accepting_looks }
+    ensures most { looks.new.accepting_looks ≤ looks.old.accepting_looks + 132 * (length
+        source.entry.symbol.now + 1) }
+    ensures early { result ≡ Attempt.Unknown → looks.new.accepting_looks ≤ looks.old.accepting_looks + 84 *
+        (length source.entry.symbol.now + 1) + 7 }
+    ensures apart { looks.old.printing_looks ≤ looks.new.printing_looks }
+    ensures few { (most : ℕ) → out.old.reread.most ≡ Some most → looks.new.printing_looks ≤
+        looks.old.printing_looks + 20 * (length source.entry.symbol.now + 1 + most) }
 {
     let mut memory = [UNUSED_FRAME; SHORT_STACK];
-    let mut parser = Parser::at_path(source, 0, &mut memory, looks);
+    let mut parser = Parser::at_path(source, 0, &mut memory, &mut looks.accepting_looks);
     parser.fuel = Fuel::for_run(source.symbol.len());
-    let result = printed_first(&mut parser, out);
-    *looks = parser.looks;
+    let result = printed_first(&mut parser, out, &mut looks.printing_looks);
+    looks.accepting_looks = parser.looks;
     result
 }

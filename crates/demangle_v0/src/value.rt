@@ -3,8 +3,7 @@ ghost use Rattle.std.specs.Prelude.{◌≡◌, ◌+◌, ◌*◌, ◌≤◌, IfSo
 ghost use Rattle.demangle_sink.specs.Cut.{kept};
 ghost use Rattle.demangle_sink.specs.Limit.{Ready};
 ghost use Rattle.demangle_v0_grammar.specs.Again.{path_again};
-ghost use Rattle.demangle_v0_grammar.specs.References.{path_texts_before};
-ghost use Rattle.demangle_v0.specs.Attempts.{PrintsPath};
+ghost use Rattle.demangle_v0.specs.Attempts.{PrintsPath, texts_for};
 
 use crate::parser::frames::{SHORT_STACK, UNUSED_FRAME};
 use crate::parser::parse::Parser;
@@ -42,8 +41,8 @@ impl<'s> Demangle<'s> {
     /// Prints the first path, with hashes or without them, and with its generic arguments or with
     /// `_` for them.
     ///
-    /// Fails at the first piece that the limit or the sink rejects, and if more references would be
-    /// followed than the adapter allows.
+    /// Fails at the first piece that the limit or the sink rejects, and at the first reference for
+    /// which more bytes may be read again than the adapter allows.
     pub fn write_to<S: TextSink>(
         &self,
         out: &mut SizeLimitedFmtAdapter<'_, S>,
@@ -53,11 +52,11 @@ impl<'s> Demangle<'s> {
         requires { Ready S.TextSink out.old }
         ensures prints { PrintsPath S.TextSink out.old self.now form result out.new }
         ensures grows { looks.old ≤ looks.new }
-        ensures most { looks.new ≤ looks.old + 100000 * (kept (path_texts_before out.old.references self.now
+        ensures most { looks.new ≤ looks.old + 100000 * (kept (texts_for out.old self.now
             form) out.old.remaining + 1) * (length self.now + 1) }
         ensures again { looks.new ≤ looks.old + 17 * (length self.now + 1 + path_again self.now form) }
-        ensures few { IfSome out.old.references (λ references.
-            looks.new ≤ looks.old + 20 * (length self.now + 1) * (references + 1)) }
+        ensures few { IfSome out.old.reread.most (λ most.
+            looks.new ≤ looks.old + 20 * (length self.now + 1 + most)) }
         ensures least { looks.old + 1 ≤ looks.new }
     {
         let source = Source {

@@ -9,7 +9,7 @@ use Rattle.demangle_v0_grammar.specs.Items.{Text, Kind, a_path, a_trait_path, It
 use Rattle.demangle_v0_grammar.specs.Table.{items}
 use Rattle.demangle_v0_grammar.specs.LookBudget.{LookCost, looks_of, IsWithinBudget}
 use Rattle.demangle_v0_grammar.specs.Reading.{Tree, nothing, piece, plain_piece, node, looked, unprinted, referred, invalid_syntax, too_deep, after_error, looks, looks_only, costs_of, Place, Outcome, Level, Context, at_place, with_tree, primitive, followed_by, parse, primitive_outcome, peek_outcome, byte_choice, one_level_deeper, max_depth, repetitions, angle_if_open, binding_separator, name_equals, bound_by, unit_outcome, folded_by, target_of, target_read, lifetime_at, letter_of, all_pieces, new_lifetimes, binder_at, level_of, levels, nowhere, read_at}
-use Rattle.demangle_v0_grammar.specs.Again.{Distance}
+use Rattle.demangle_v0_grammar.specs.Again.{Distance, again}
 use Rattle.demangle_v0_grammar.proofs.BudgetRules.{IsWithinBudget-more, IsWithinBudget-append}
 use Rattle.demangle_symbol.proofs.Counts.{Placed, byte_placed, namespace_placed, integer_placed, optional_placed, backref_placed, identifier_placed, nibbles_placed}
 use Rattle.demangle_v0_grammar.proofs.SpelledIsParsed.{there_placed}
@@ -18,31 +18,33 @@ use Rattle.demangle_v0_grammar.proofs.Failed.{failed}
 use Rattle.demangle_v0_grammar.proofs.FailedRows.{looks_append, looks_unheard}
 use Rattle.demangle_v0_grammar.proofs.LooksLaw.{failed_looks}
 use Rattle.demangle_v0_grammar.proofs.ItemBudgets.{start, Fits}
+use Rattle.demangle_v0_grammar.proofs.NoReferences.{follows_none}
 use Rattle.demangle_v0_grammar.proofs.ItemLooks.{target_within, small}
 
--- the looks of a tree, and the distances of its references before what they lead to
-abbrev pub work_of : (before after : Distance) → Tree → List LookCost
-work_of before after nothing = []
-work_of before after (piece t rest) = work_of before after rest
-work_of before after (plain_piece t rest) = work_of before after rest
-work_of before after (node inside rest) = work_of before after inside ++ work_of before after rest
-work_of before after (looked k rest) = looks k ∷ work_of before after rest
-work_of before after (unprinted inside rest) = work_of before after inside ++ work_of before after rest
-work_of before after (referred t j end inside) = record { bytes = before t j end; looks = 0 } ∷ (work_of before after inside ++ record { bytes = after t j end; looks = 0 } ∷ [])
-work_of before after invalid_syntax = []
-work_of before after too_deep = []
-work_of before after after_error = []
+-- the looks of a tree; the distances of its references before and after what they lead to; and what they give back then,
+-- as looks
+abbrev pub work_of : (before after back : Distance) → Tree → List LookCost
+work_of before after back nothing = []
+work_of before after back (piece t rest) = work_of before after back rest
+work_of before after back (plain_piece t rest) = work_of before after back rest
+work_of before after back (node inside rest) = work_of before after back inside ++ work_of before after back rest
+work_of before after back (looked k rest) = looks k ∷ work_of before after back rest
+work_of before after back (unprinted inside rest) = work_of before after back inside ++ work_of before after back rest
+work_of before after back (referred t j end inside) = record { bytes = before t j end; looks = 0 } ∷ (work_of before after back inside ++ record { bytes = after t j end; looks = 17 * back t j end } ∷ [])
+work_of before after back invalid_syntax = []
+work_of before after back too_deep = []
+work_of before after back after_error = []
 
--- the looks are those of the tree's costs
-pub same_looks : (before after : Distance) (t : Tree) → looks_of (work_of before after t) ≡ looks_of (costs_of true t)
-same_looks before after nothing = refl
-same_looks before after (piece t rest) = omega (arith, same_looks before after rest)
-same_looks before after (plain_piece t rest) = omega (arith, same_looks before after rest)
-same_looks before after (node x y) = omega (arith, same_looks before after x, same_looks before after y, looks_append (work_of before after x) (work_of before after y), looks_append (costs_of true x) (costs_of true y))
-same_looks before after (looked k rest) = omega (arith, same_looks before after rest)
-same_looks before after (unprinted x y) = omega (arith, same_looks before after x, same_looks before after y, looks_append (work_of before after x) (work_of before after y), looks_append (looks_only (costs_of true x)) (costs_of true y), looks_unheard (costs_of true x))
-same_looks before after (referred t j end inside) = omega (arith, same_looks before after inside, looks_append (work_of before after inside) (record { bytes = after t j end; looks = 0 } ∷ []))
-same_looks before after _ = refl
+-- the looks are those of the tree's costs, and what is given back
+pub same_looks : (before after back : Distance) (t : Tree) → looks_of (work_of before after back t) ≡ looks_of (costs_of true t) + 17 * again back t
+same_looks before after back nothing = refl
+same_looks before after back (piece t rest) = omega (arith, same_looks before after back rest)
+same_looks before after back (plain_piece t rest) = omega (arith, same_looks before after back rest)
+same_looks before after back (node x y) = omega (arith, same_looks before after back x, same_looks before after back y, looks_append (work_of before after back x) (work_of before after back y), looks_append (costs_of true x) (costs_of true y))
+same_looks before after back (looked k rest) = omega (arith, same_looks before after back rest)
+same_looks before after back (unprinted x y) = omega (arith, same_looks before after back x, same_looks before after back y, looks_append (work_of before after back x) (work_of before after back y), looks_append (looks_only (costs_of true x)) (costs_of true y), looks_unheard (costs_of true x))
+same_looks before after back (referred t j end inside) = omega (arith, same_looks before after back inside, looks_append (work_of before after back inside) (record { bytes = after t j end; looks = 17 * back t j end } ∷ []))
+same_looks before after back _ = refl
 
 -- no looks cost nothing
 without_looks : (a : ℕ) (xs : List LookCost) → looks_of xs ≡ 0 → IsWithinBudget 17 a xs a
@@ -55,27 +57,27 @@ abbrev pub Goes : (R n i from to : ℕ) → List LookCost → Place → Type 0
 Goes R n i from to xs None = IsWithinBudget 17 (17 * (n + 1 - i) + from + R) xs (8 + R)
 Goes R n i from to xs (Some j) = (i ≤ j) × (j ≤ n) × IsWithinBudget 17 (17 * (j - i) + from + R) xs (to + R)
 
--- The distances before and after what a reference leads to are at least the reach of its target. The one before is not
--- less by more than the gap.
-pub record Covers (n gap : ℕ) (before after : Distance) : Type 0 where
-  pub failed : (t j : ℕ) → (n + 1 - t ≤ before t (Some j) None + gap) × (n + 1 - t ≤ before t (Some j) None + after t (Some j) None)
-  pub read : (t j e : ℕ) → e ≤ n → (e - t ≤ before t (Some j) (Some e) + gap) × (e - t ≤ before t (Some j) (Some e) + after t (Some j) (Some e))
+-- The distances before and after what a reference leads to are at least the reach of its target and what is given back.
+-- The one before is not less than that by more than the gap.
+pub record Covers (n gap : ℕ) (before after back : Distance) : Type 0 where
+  pub failed : (t j : ℕ) → (n + 1 - t + back t (Some j) None ≤ before t (Some j) None + gap) × (n + 1 - t + back t (Some j) None ≤ before t (Some j) None + after t (Some j) None)
+  pub read : (t j e : ℕ) → t ≤ e → e ≤ n → (e - t + back t (Some j) (Some e) ≤ before t (Some j) (Some e) + gap) × (e - t + back t (Some j) (Some e) ≤ before t (Some j) (Some e) + after t (Some j) (Some e))
 
 -- what the last m depths lend
 abbrev pub loan : (gap m : ℕ) → ℕ
 loan gap zero = 0
 loan gap (suc m) = loan gap m + 17 * gap
 
-module _ (before after : Distance) where
+module _ (before after back : Distance) where
   abbrev pub Within : (R n i from to : ℕ) → Outcome → Type 0
-  Within R n i from to o = Goes R n i from to (work_of before after o.tree) o.place
+  Within R n i from to o = Goes R n i from to (work_of before after back o.tree) o.place
 
   -- after an error there is no work
   abbrev Still : Outcome → Type 0
-  Still o = (o.place ≡ None) × (looks_of (work_of before after o.tree) ≡ 0)
+  Still o = (o.place ≡ None) × (looks_of (work_of before after back o.tree) ≡ 0)
 
   still : (p : Items) (s : Context) → Still (parse p s None)
-  still p s = (failed p s, same_looks before after (parse p s None).tree ∙ failed_looks p s true)
+  still p s = (failed p s, omega (arith, same_looks before after back (parse p s None).tree, failed_looks p s true, (follows_none back p s).1))
 
   still_closed : (o : Bool) → Still (angle_if_open o None)
   still_closed true = (refl, refl)
@@ -112,10 +114,10 @@ module _ (before after : Distance) where
   joined_still R n i from to xs ys None e h f = IsWithinBudget-append 17 (17 * (n + 1 - i) + from + R) (8 + R) (8 + R) xs ys h (without_looks (8 + R) ys f)
 
   -- a production and the rest
-  both : (R n i from mid to : ℕ) (t : Tree) (x : Place) (f : Place → Outcome) → Goes R n i from mid (work_of before after t) x →
-      ((j : ℕ) → i ≤ j → j ≤ n → Within R n j mid to (f (Some j))) → Still (f None) → Goes R n i from to (work_of before after t ++ work_of before after (f x).tree) (f x).place
-  both R n i from mid to t None f h k s = joined_still R n i from to (work_of before after t) (work_of before after (f None).tree) (f None).place s.0 h s.1
-  both R n i from mid to t (Some j) f h k s = joined R n i j from mid to (work_of before after t) (work_of before after (f (Some j)).tree) (f (Some j)).place h.0 h.1 h.2 (k j h.0 h.1)
+  both : (R n i from mid to : ℕ) (t : Tree) (x : Place) (f : Place → Outcome) → Goes R n i from mid (work_of before after back t) x →
+      ((j : ℕ) → i ≤ j → j ≤ n → Within R n j mid to (f (Some j))) → Still (f None) → Goes R n i from to (work_of before after back t ++ work_of before after back (f x).tree) (f x).place
+  both R n i from mid to t None f h k s = joined_still R n i from to (work_of before after back t) (work_of before after back (f None).tree) (f None).place s.0 h s.1
+  both R n i from mid to t (Some j) f h k s = joined R n i j from mid to (work_of before after back t) (work_of before after back (f (Some j)).tree) (f (Some j)).place h.0 h.1 h.2 (k j h.0 h.1)
 
   folded_goes : (R n i from l to : ℕ) (c : Bool) (x y : Outcome) (f : Place → Outcome) → Within R n i from l x → Within R n i from l y →
       ((j : ℕ) → i ≤ j → j ≤ n → Within R n j l to (f (Some j))) → Still (f None) → Within R n i from to (folded_by c x y f)
@@ -124,20 +126,20 @@ module _ (before after : Distance) where
 
   -- Texts.
 
-  work_pieces : (ts : List Text) (t : Tree) → work_of before after (all_pieces ts t) ≡ work_of before after t
+  work_pieces : (ts : List Text) (t : Tree) → work_of before after back (all_pieces ts t) ≡ work_of before after back t
   work_pieces [] t = refl
   work_pieces (x ∷ ts) t = work_pieces ts t
 
-  work_new : (m n : ℕ) (t : Tree) → work_of before after (new_lifetimes m n t) ≡ work_of before after t
+  work_new : (m n : ℕ) (t : Tree) → work_of before after back (new_lifetimes m n t) ≡ work_of before after back t
   work_new zero n t = refl
   work_new (suc m) n t = work_pieces (letter_of n) (new_lifetimes m (n + 1) t) ∙ work_new m (n + 1) t
 
-  work_binder : (c : Bool) (m n : ℕ) (t : Tree) → work_of before after (binder_at c m n t) ≡ work_of before after t
+  work_binder : (c : Bool) (m n : ℕ) (t : Tree) → work_of before after back (binder_at c m n t) ≡ work_of before after back t
   work_binder false m n t = refl
   work_binder true zero n t = refl
   work_binder true (suc m) n t = work_pieces (letter_of n) (new_lifetimes m (n + 1) (piece (codes "> ") t)) ∙ work_new m (n + 1) (piece (codes "> ") t)
 
-  work_separator : (o : Bool) (t : Tree) → work_of before after (binding_separator o t) ≡ work_of before after t
+  work_separator : (o : Bool) (t : Tree) → work_of before after back (binding_separator o t) ≡ work_of before after back t
   work_separator true t = refl
   work_separator false t = refl
 
@@ -153,18 +155,18 @@ module _ (before after : Distance) where
   primitive_goes R n i from mid to low bs (Some (v, j)) f b l c e h =
       let w : (i + low ≤ j) × (j ≤ length bs) = c in
       let u : j ≤ n = subst (λ z. j ≤ z) b w.1 in
-      step R n i j from mid to (4 * (j - i + 1)) (work_of before after (f v (Some j)).tree) (f v (Some j)).place (omega (arith, w.0)) u (omega (arith, e, w.0)) (h v j refl (omega (arith, w.0)) u)
+      step R n i j from mid to (4 * (j - i + 1)) (work_of before after back (f v (Some j)).tree) (f v (Some j)).place (omega (arith, w.0)) u (omega (arith, e, w.0)) (h v j refl (omega (arith, w.0)) u)
 
   peek_goes : (R n i from mid to : ℕ) (q : Option ℕ) (f : ℕ → Outcome) → i ≤ n → 1 + mid ≤ from →
       ((v : ℕ) → Within R n i mid to (f v)) → Within R n i from to (peek_outcome f q)
   peek_goes R n i from mid to None f l e h = (omega (arith, l), omega (arith, l))
-  peek_goes R n i from mid to (Some q) f l e h = step R n i i from mid to 1 (work_of before after (f q).tree) (f q).place (omega arith) l (omega (arith, e)) (h q)
+  peek_goes R n i from mid to (Some q) f l e h = step R n i i from mid to 1 (work_of before after back (f q).tree) (f q).place (omega arith) l (omega (arith, e)) (h q)
 
   fork_goes : (R n i from there other to : ℕ) (c : Bool) (f g : Place → Outcome) → i ≤ n → (c ≡ true → i + 1 ≤ n) →
       1 + there ≤ 17 + from → 1 + other ≤ from →
       (i + 1 ≤ n → Within R n (i + 1) there to (f (Some (i + 1)))) → Within R n i other to (g (Some i)) → Within R n i from to (byte_choice c f g (Some i))
-  fork_goes R n i from there other to true f g l m a b h k = step R n i (i + 1) from there to 1 (work_of before after (f (Some (i + 1))).tree) (f (Some (i + 1))).place (omega arith) (m refl) (omega (arith, a)) (h (m refl))
-  fork_goes R n i from there other to false f g l m a b h k = step R n i i from other to 1 (work_of before after (g (Some i)).tree) (g (Some i)).place (omega arith) l (omega (arith, b)) k
+  fork_goes R n i from there other to true f g l m a b h k = step R n i (i + 1) from there to 1 (work_of before after back (f (Some (i + 1))).tree) (f (Some (i + 1))).place (omega arith) (m refl) (omega (arith, a)) (h (m refl))
+  fork_goes R n i from there other to false f g l m a b h k = step R n i i from other to 1 (work_of before after back (g (Some i)).tree) (g (Some i)).place (omega arith) l (omega (arith, b)) k
 
   closed_goes : (R n i from to : ℕ) (o : Bool) → i ≤ n → to ≤ from → Within R n i from to (angle_if_open o (Some i))
   closed_goes R n i from to true l e = (omega arith, l, omega (arith, e))
@@ -178,7 +180,7 @@ module _ (before after : Distance) where
   lifetime_goes R n i from false m k l = (omega arith, l, omega arith)
   lifetime_goes R n i from true m k l =
       choice_goes R n i from from (k == 0) _ _ (omega arith, l, omega arith)
-      (choice_goes R n i from from (nat_le k m) _ _ (with_work R n i from from (work_of before after (all_pieces (letter_of (m - k)) nothing)) [] (Some i) (work_pieces (letter_of (m - k)) nothing) (omega arith, l, omega arith)) (omega (arith, l)))
+      (choice_goes R n i from from (nat_le k m) _ _ (with_work R n i from from (work_of before after back (all_pieces (letter_of (m - k)) nothing)) [] (Some i) (work_pieces (letter_of (m - k)) nothing) (omega arith, l, omega arith)) (omega (arith, l)))
 
   -- Levels.
 
@@ -191,34 +193,34 @@ module _ (before after : Distance) where
   AllGo gap R n (l ∷ ls) = (S : ℕ) × (S + 17 * gap ≤ R) × LevelGoes S n l × AllGo gap S n ls
 
   -- the distances of a reference pay for its target
-  target_goes : (n gap R S t j a e k : ℕ) (kind : Kind) (xs : List LookCost) (x : Place) → Covers n gap before after → a ≡ k + R → S + 17 * gap ≤ R → e ≤ k → 2 ≤ k → Goes S n t (start kind) 8 xs x →
-      IsWithinBudget 17 a (record { bytes = before t (Some j) x; looks = 0 } ∷ (xs ++ record { bytes = after t (Some j) x; looks = 0 } ∷ [])) (e + R)
+  target_goes : (n gap R S t j a e k : ℕ) (kind : Kind) (xs : List LookCost) (x : Place) → Covers n gap before after back → a ≡ k + R → S + 17 * gap ≤ R → e ≤ k → 2 ≤ k → Goes S n t (start kind) 8 xs x →
+      IsWithinBudget 17 a (record { bytes = before t (Some j) x; looks = 0 } ∷ (xs ++ record { bytes = after t (Some j) x; looks = 17 * back t (Some j) x } ∷ [])) (e + R)
   target_goes n gap R S t j a e k kind xs None z q l m w h =
-      let y : (n + 1 - t ≤ before t (Some j) None + gap) × (n + 1 - t ≤ before t (Some j) None + after t (Some j) None) = z.failed t j in
+      let y : (n + 1 - t + back t (Some j) None ≤ before t (Some j) None + gap) × (n + 1 - t + back t (Some j) None ≤ before t (Some j) None + after t (Some j) None) = z.failed t j in
       let mid : ℕ = 8 + k + R + 17 * before t (Some j) None - 17 * (n + 1 - t) - start kind in (
         omega arith,
-        IsWithinBudget-append 17 (a - 0 + 17 * before t (Some j) None) mid (e + R) xs (record { bytes = after t (Some j) None; looks = 0 } ∷ [])
+        IsWithinBudget-append 17 (a - 0 + 17 * before t (Some j) None) mid (e + R) xs (record { bytes = after t (Some j) None; looks = 17 * back t (Some j) None } ∷ [])
             (IsWithinBudget-more 17 (17 * (n + 1 - t) + start kind + S) (a - 0 + 17 * before t (Some j) None) (8 + S) mid (a + 17 * before t (Some j) None - 17 * (n + 1 - t) - start kind - S) xs (omega (arith, y.0, small kind)) (omega (arith, y.0, small kind)) h)
-            (omega arith, omega (arith, y.0, y.1, small kind)),
+            (omega (arith, y.0, y.1, small kind), omega (arith, y.0, y.1, small kind)),
       )
   target_goes n gap R S t j a e k kind xs (Some o) z q l m w h =
-      let y : (o - t ≤ before t (Some j) (Some o) + gap) × (o - t ≤ before t (Some j) (Some o) + after t (Some j) (Some o)) = z.read t j o h.1 in
+      let y : (o - t + back t (Some j) (Some o) ≤ before t (Some j) (Some o) + gap) × (o - t + back t (Some j) (Some o) ≤ before t (Some j) (Some o) + after t (Some j) (Some o)) = z.read t j o h.0 h.1 in
       let mid : ℕ = 8 + k + R + 17 * before t (Some j) (Some o) - 17 * (o - t) - start kind in (
         omega arith,
-        IsWithinBudget-append 17 (a - 0 + 17 * before t (Some j) (Some o)) mid (e + R) xs (record { bytes = after t (Some j) (Some o); looks = 0 } ∷ [])
+        IsWithinBudget-append 17 (a - 0 + 17 * before t (Some j) (Some o)) mid (e + R) xs (record { bytes = after t (Some j) (Some o); looks = 17 * back t (Some j) (Some o) } ∷ [])
             (IsWithinBudget-more 17 (17 * (o - t) + start kind + S) (a - 0 + 17 * before t (Some j) (Some o)) (8 + S) mid (a + 17 * before t (Some j) (Some o) - 17 * (o - t) - start kind - S) xs (omega (arith, y.0, small kind)) (omega (arith, y.0, small kind)) h.2)
-            (omega arith, omega (arith, y.0, y.1, small kind)),
+            (omega (arith, y.0, y.1, small kind), omega (arith, y.0, y.1, small kind)),
       )
 
-  target_of_goes : (n gap R i m t k e : ℕ) (kind : Kind) (value fl : Bool) (ls : List Level) → Covers n gap before after → AllGo gap R n ls → t ≤ n → i ≤ n → e ≤ k → 2 ≤ k →
+  target_of_goes : (n gap R i m t k e : ℕ) (kind : Kind) (value fl : Bool) (ls : List Level) → Covers n gap before after back → AllGo gap R n ls → t ≤ n → i ≤ n → e ≤ k → 2 ≤ k →
       Within R n i k e (target_of ls (λ level. target_read fl (level true kind value m) t (Some i)))
   target_of_goes n gap R i m t k e kind value fl [] z g b l a w = omega (arith, l)
   target_of_goes n gap R i m t k e kind value true (x ∷ xs) z g b l a w =
       let o : Outcome = x true kind value m t in (
         omega arith,
         l,
-        IsWithinBudget-append 17 (17 * (i - i) + k + R) (e + R) (e + R) (work_of before after (referred t (Some i) o.place o.tree)) []
-            (target_goes n gap R g.0 t i (17 * (i - i) + k + R) e k kind (work_of before after o.tree) o.place z (omega arith) g.1 a w (g.2 true kind value m t b)) (omega arith),
+        IsWithinBudget-append 17 (17 * (i - i) + k + R) (e + R) (e + R) (work_of before after back (referred t (Some i) o.place o.tree)) []
+            (target_goes n gap R g.0 t i (17 * (i - i) + k + R) e k kind (work_of before after back o.tree) o.place z (omega arith) g.1 a w (g.2 true kind value m t b)) (omega arith),
       )
   target_of_goes n gap R i m t k e kind value false (x ∷ xs) z g b l a w = (omega arith, l, omega (arith, a))
 
@@ -240,11 +242,11 @@ module _ (before after : Distance) where
   bound_goes R n c e (suc m) s f q b low h o i l =
       let rest : Place → Outcome = λ j. primitive s j identifier_at (λ a k. with_tree (name_equals a) (followed_by (f k) (bound_by m s f true))) in
       fork_goes R n i c (c + 16) (c - 1) e (is_byte s.symbol i (code "p")) (λ j. with_tree (binding_separator o) (rest j)) (angle_if_open o) l (λ y. subst (λ z. i + 1 ≤ z) q (there_placed s.symbol (code "p") i y)) (omega arith) (omega (arith, b))
-      (λ y. with_work R n (i + 1) (c + 16) e (work_of before after (binding_separator o (rest (Some (i + 1))).tree)) (work_of before after (rest (Some (i + 1))).tree) (rest (Some (i + 1))).place (work_separator o (rest (Some (i + 1))).tree)
+      (λ y. with_work R n (i + 1) (c + 16) e (work_of before after back (binding_separator o (rest (Some (i + 1))).tree)) (work_of before after back (rest (Some (i + 1))).tree) (rest (Some (i + 1))).place (work_separator o (rest (Some (i + 1))).tree)
       (subst (λ z. Within R n (i + 1) (c + 16) e (primitive_outcome z (i + 1) (λ a k. with_tree (name_equals a) (followed_by (f k) (bound_by m s f true))) (identifier_at s.symbol (i + 1)))) (sym q)
       (primitive_goes R n (i + 1) (c + 16) (c + 25) e 1 s.symbol (identifier_at s.symbol (i + 1)) (λ a k. with_tree (name_equals a) (followed_by (f k) (bound_by m s f true))) q y (identifier_placed s.symbol (i + 1)) (omega arith)
       (λ a j _ _ z. let all : Outcome = followed_by (f (Some j)) (bound_by m s f true) in
-      with_work R n j (c + 25) e (work_of before after (name_equals a all.tree)) (work_of before after all.tree) all.place (work_pieces (name_pieces a) (piece (codes " = ") all.tree))
+      with_work R n j (c + 25) e (work_of before after back (name_equals a all.tree)) (work_of before after back all.tree) all.place (work_pieces (name_pieces a) (piece (codes " = ") all.tree))
       (both R n j (c + 25) c e (f (Some j)).tree (f (Some j)).place (bound_by m s f true) (h j z) (λ k _ x. bound_goes R n c e m s f q b low h true k x) (still_closed true))))))
       (closed_goes R n i (c - 1) e o l low)
 
@@ -256,10 +258,10 @@ module _ (before after : Distance) where
   raised_goes : (n gap R k e i : ℕ) (ls : List Level) (f : Level → List Level → Place → Outcome) → i ≤ n → AllGo gap R n ls →
       ((S : ℕ) (l : Level) (ls : List Level) → LevelGoes S n l → AllGo gap S n ls → Within S n i k e (f l ls (Some i))) → Within R n i k e (one_level_deeper ls f (Some i))
   raised_goes n gap R k e i [] f l g h = omega (arith, l)
-  raised_goes n gap R k e i (x ∷ xs) f l g h = lent R g.0 n i k e (work_of before after (f x xs (Some i)).tree) (f x xs (Some i)).place (omega (arith, g.1)) (h g.0 x xs g.2 g.3)
+  raised_goes n gap R k e i (x ∷ xs) f l g h = lent R g.0 n i k e (work_of before after back (f x xs (Some i)).tree) (f x xs (Some i)).place (omega (arith, g.1)) (h g.0 x xs g.2 g.3)
 
   record Holds (gap R : ℕ) (s : Context) : Type 0 where
-    covers : Covers (length s.symbol) gap before after
+    covers : Covers (length s.symbol) gap before after back
     here : LevelGoes R (length s.symbol) s.here
     deeper : AllGo gap R (length s.symbol) s.deeper
 
@@ -294,7 +296,7 @@ module _ (before after : Distance) where
   goes gap R (until_end p q) s c z e k g a m i l =
       let o : Outcome = repetitions (suc (length s.symbol)) s.symbol (parse p s) (Some i) in
       both R (length s.symbol) i k (a.0 + 16) e o.tree o.place (parse q s)
-      (more R (length s.symbol) i k a.0 (a.0 + 16) (a.0 + 16) (work_of before after o.tree) o.place (omega (arith, a.1)) (omega arith)
+      (more R (length s.symbol) i k a.0 (a.0 + 16) (a.0 + 16) (work_of before after back o.tree) o.place (omega (arith, a.1)) (omega arith)
       (repetitions_go R (length s.symbol) a.0 (suc (length s.symbol)) s.symbol (parse p s) refl a.2 (λ j b. goes gap R p s c z a.0 (a.0 - 1) false a.3 m j b) i l))
       (λ j _ b. goes gap R q s c z e (a.0 + 16) false a.4 m j b) (still q s)
   goes gap R (raise p) s c z e k g a m i l = raised_goes (length s.symbol) gap R k e i s.deeper (λ x xs. parse p (record s { here = x; deeper = xs })) l m.deeper
@@ -304,12 +306,12 @@ module _ (before after : Distance) where
   goes gap R (child kind value p) s c z e k g a m i l =
       let o : Outcome = unit_outcome s kind value (Some i) in
       both R (length s.symbol) i k 8 e o.tree o.place (parse p s)
-      (more R (length s.symbol) i k (start kind) 8 8 (work_of before after o.tree) o.place a.0 (omega arith) (m.here s.printed kind value s.lifetimes i l))
+      (more R (length s.symbol) i k (start kind) 8 8 (work_of before after back o.tree) o.place a.0 (omega arith) (m.here s.printed kind value s.lifetimes i l))
       (λ j _ b. goes gap R p s c z e 8 false a.2 m j b) (still p s)
   goes gap R (skip p) s c z e k g a m i l =
       let o : Outcome = s.here false a_path false s.lifetimes i in
       both R (length s.symbol) i k 8 e o.tree o.place (parse p s)
-      (more R (length s.symbol) i k 0 8 8 (work_of before after o.tree) o.place (omega arith) (omega arith) (m.here false a_path false s.lifetimes i l))
+      (more R (length s.symbol) i k 0 8 8 (work_of before after back o.tree) o.place (omega arith) (omega arith) (m.here false a_path false s.lifetimes i l))
       (λ j _ b. goes gap R p s c z e 8 g a.1 m j b) (still p s)
   goes gap R (folded p q) s c z e k g a m i l =
       let quiet = record s { printed = false } in
@@ -326,22 +328,22 @@ module _ (before after : Distance) where
   goes gap R (binder x p) s c z e k g a m i l =
       let y = record s { lifetimes = s.lifetimes + x } in
       let o : Outcome = parse p y (Some i) in
-      with_work R (length s.symbol) i k e (work_of before after (binder_at s.printed x s.lifetimes o.tree)) (work_of before after o.tree) o.place (work_binder s.printed x s.lifetimes o.tree)
+      with_work R (length s.symbol) i k e (work_of before after back (binder_at s.printed x s.lifetimes o.tree)) (work_of before after back o.tree) o.place (work_binder s.printed x s.lifetimes o.tree)
       (goes gap R p y c z e k g a (record { covers = m.covers; here = m.here; deeper = m.deeper }) i l)
   goes gap R (leave_open p) s c z e k g a m i l = goes gap R p s c z e k g a.1 m i l
   goes gap R (dyn_trait p) s c z e k g a m i l =
       let path : Outcome = unit_outcome s a_trait_path false (Some i) in
       both R (length s.symbol) i k 8 e path.tree path.place (bound_by (suc (length s.symbol)) s (parse p s) path.is_bracket_open)
-      (more R (length s.symbol) i k (start a_trait_path) 8 8 (work_of before after path.tree) path.place a.0 (omega arith) (m.here s.printed a_trait_path false s.lifetimes i l))
+      (more R (length s.symbol) i k (start a_trait_path) 8 8 (work_of before after back path.tree) path.place a.0 (omega arith) (m.here s.printed a_trait_path false s.lifetimes i l))
       (λ j _ b. let all : Outcome = bound_by (suc (length s.symbol)) s (parse p s) path.is_bracket_open (Some j) in
-      more R (length s.symbol) j 8 a.2.0 e e (work_of before after all.tree) all.place (omega (arith, a.2.1)) (omega arith)
+      more R (length s.symbol) j 8 a.2.0 e e (work_of before after back all.tree) all.place (omega (arith, a.2.1)) (omega arith)
       (bound_goes R (length s.symbol) a.2.0 e (suc (length s.symbol)) s (parse p s) refl a.2.2 a.2.4 (λ v x. goes gap R p s c z a.2.0 (a.2.0 + 25) true a.2.3 m v x) path.is_bracket_open j b)) (still_closed path.is_bracket_open)
   goes gap R (bindings o p) s c z e k g a m i l =
       let all : Outcome = bound_by (suc (length s.symbol)) s (parse p s) o (Some i) in
-      more R (length s.symbol) i k a.1 e e (work_of before after all.tree) all.place (omega (arith, a.2)) (omega arith)
+      more R (length s.symbol) i k a.1 e e (work_of before after back all.tree) all.place (omega (arith, a.2)) (omega arith)
       (bound_goes R (length s.symbol) a.1 e (suc (length s.symbol)) s (parse p s) refl a.3 a.5 (λ v x. goes gap R p s c z a.1 (a.1 + 25) true a.4 m v x) o i l)
 
-  level_goes : (gap R : ℕ) (symbol : List ℕ) (folds : Bool) (ls : List Level) → Covers (length symbol) gap before after → AllGo gap R (length symbol) ls → LevelGoes R (length symbol) (level_of symbol folds ls)
+  level_goes : (gap R : ℕ) (symbol : List ℕ) (folds : Bool) (ls : List Level) → Covers (length symbol) gap before after back → AllGo gap R (length symbol) ls → LevelGoes R (length symbol) (level_of symbol folds ls)
   unfolding parse level_of
   level_goes gap R symbol folds ls h a pr kind value m i l =
       let at : Level → Bool → ℕ → Context = λ here f k. record { symbol = symbol; folds = folds; printed = f; here = here; deeper = ls; lifetimes = k } in
@@ -353,14 +355,14 @@ module _ (before after : Distance) where
         deeper = a;
       }) i l
 
-  levels_go : (gap : ℕ) (symbol : List ℕ) (folds : Bool) (m : ℕ) → Covers (length symbol) gap before after → AllGo gap (loan gap m) (length symbol) (levels symbol folds m)
+  levels_go : (gap : ℕ) (symbol : List ℕ) (folds : Bool) (m : ℕ) → Covers (length symbol) gap before after back → AllGo gap (loan gap m) (length symbol) (levels symbol folds m)
   unfolding levels
   levels_go gap symbol folds zero h = tt
   levels_go gap symbol folds (suc m) h =
       let q : AllGo gap (loan gap m) (length symbol) (levels symbol folds m) = levels_go gap symbol folds m h in
       (loan gap m, omega arith, level_goes gap (loan gap m) symbol folds (levels symbol folds m) h q, q)
 
-  pub read_goes : (gap : ℕ) (symbol : List ℕ) (folds printed : Bool) (kind : Kind) (i depth m : ℕ) (value : Bool) → Covers (length symbol) gap before after → i ≤ length symbol →
+  pub read_goes : (gap : ℕ) (symbol : List ℕ) (folds printed : Bool) (kind : Kind) (i depth m : ℕ) (value : Bool) → Covers (length symbol) gap before after back → i ≤ length symbol →
       Within (loan gap (max_depth - depth)) (length symbol) i (start kind) 8 (read_at symbol folds printed kind i depth m value)
   unfolding read_at
   read_goes gap symbol folds printed kind i depth m value h l = level_goes gap (loan gap (max_depth - depth)) symbol folds (levels symbol folds (max_depth - depth)) h (levels_go gap symbol folds (max_depth - depth) h) printed kind value m i l

@@ -23,15 +23,15 @@ use Rattle.demangle_v0_grammar.proofs.AgainItems.{work_of, same_looks, Goes, Cov
 -- The distances.
 
 -- the work has the distances of the tree
-again_bytes : (before after : Distance) (t : Tree) → bytes_of (work_of before after t) ≡ again before t + again after t
-again_bytes before after nothing = refl
-again_bytes before after (piece t rest) = again_bytes before after rest
-again_bytes before after (plain_piece t rest) = again_bytes before after rest
-again_bytes before after (node x y) = omega (arith, again_bytes before after x, again_bytes before after y, bytes_append (work_of before after x) (work_of before after y))
-again_bytes before after (looked k rest) = omega (arith, again_bytes before after rest)
-again_bytes before after (unprinted x y) = omega (arith, again_bytes before after x, again_bytes before after y, bytes_append (work_of before after x) (work_of before after y))
-again_bytes before after (referred t j end inside) = omega (arith, again_bytes before after inside, bytes_append (work_of before after inside) (record { bytes = after t j end; looks = 0 } ∷ []))
-again_bytes before after _ = refl
+again_bytes : (before after back : Distance) (t : Tree) → bytes_of (work_of before after back t) ≡ again before t + again after t
+again_bytes before after back nothing = refl
+again_bytes before after back (piece t rest) = again_bytes before after back rest
+again_bytes before after back (plain_piece t rest) = again_bytes before after back rest
+again_bytes before after back (node x y) = omega (arith, again_bytes before after back x, again_bytes before after back y, bytes_append (work_of before after back x) (work_of before after back y))
+again_bytes before after back (looked k rest) = omega (arith, again_bytes before after back rest)
+again_bytes before after back (unprinted x y) = omega (arith, again_bytes before after back x, again_bytes before after back y, bytes_append (work_of before after back x) (work_of before after back y))
+again_bytes before after back (referred t j end inside) = omega (arith, again_bytes before after back inside, bytes_append (work_of before after back inside) (record { bytes = after t j end; looks = 17 * back t j end } ∷ []))
+again_bytes before after back _ = refl
 
 none_again : (t : Tree) → again no_distance t ≡ 0
 none_again nothing = refl
@@ -42,6 +42,10 @@ none_again (looked k rest) = none_again rest
 none_again (unprinted x y) = omega (arith, none_again x, none_again y)
 none_again (referred t j end inside) = omega (arith, none_again inside)
 none_again _ = refl
+
+-- if nothing is given back, the looks are those of the tree's costs
+looks_alike : (before after : Distance) (t : Tree) → looks_of (work_of before after no_distance t) ≡ looks_of (costs_of true t)
+looks_alike before after t = omega (arith, same_looks before after no_distance t, none_again t)
 
 both_again : (n : ℕ) (t : Tree) → again (read_again n) t ≡ again led_back t + again (beyond n) t
 both_again n nothing = refl
@@ -76,14 +80,14 @@ spelled_target symbol folds kind value t e j depth m h b a l = subst (λ (x : Pl
 
 -- What is paid before the target and after it.
 
-pub there_and_beyond : (n : ℕ) → Covers n (n + 1) led_back (beyond n)
-there_and_beyond n = record { failed = λ t j. (omega arith, omega arith); read = λ t j e h. (omega (arith, h), omega (arith, h)) }
+pub there_and_beyond : (n : ℕ) → Covers n (n + 1) led_back (beyond n) no_distance
+there_and_beyond n = record { failed = λ t j. (omega arith, omega arith); read = λ t j e d h. (omega (arith, d, h), omega (arith, d, h)) }
 
-pub all_before : (n : ℕ) → Covers n 0 (up_to_end n) no_distance
-all_before n = record { failed = λ t j. (omega arith, omega arith); read = λ t j e h. (omega (arith, h), omega (arith, h)) }
+pub all_before : (n : ℕ) → Covers n 0 (up_to_end n) no_distance no_distance
+all_before n = record { failed = λ t j. (omega arith, omega arith); read = λ t j e d h. (omega (arith, d, h), omega (arith, d, h)) }
 
-pub known_after : (n : ℕ) → Covers n 0 (read_again n) no_distance
-known_after n = record { failed = λ t j. (omega arith, omega arith); read = λ t j e h. (omega (arith, h), omega (arith, h)) }
+pub known_after : (n : ℕ) → Covers n 0 (read_again n) no_distance no_distance
+known_after n = record { failed = λ t j. (omega arith, omega arith); read = λ t j e d h. (omega (arith, d, h), omega (arith, d, h)) }
 
 -- The law.
 
@@ -98,9 +102,9 @@ pub looks_again : (symbol : List ℕ) (folds printed : Bool) (kind : Kind) (i de
 looks_again symbol folds printed kind i depth m value l =
     let n : ℕ = length symbol in
     let o : Outcome = read_at symbol folds printed kind i depth m value in
-    let w : looks_of (work_of led_back (beyond n) o.tree) + 8 ≤ 17 * reach n i o.place + start kind + 17 * bytes_of (work_of led_back (beyond n) o.tree) =
-    whole (loan (n + 1) (max_depth - depth)) n i (start kind) (work_of led_back (beyond n) o.tree) o.place (read_goes led_back (beyond n) (n + 1) symbol folds printed kind i depth m value (there_and_beyond n) l) in
-    omega (arith, w, small kind, same_looks led_back (beyond n) o.tree, again_bytes led_back (beyond n) o.tree, both_again n o.tree)
+    let w : looks_of (work_of led_back (beyond n) no_distance o.tree) + 8 ≤ 17 * reach n i o.place + start kind + 17 * bytes_of (work_of led_back (beyond n) no_distance o.tree) =
+    whole (loan (n + 1) (max_depth - depth)) n i (start kind) (work_of led_back (beyond n) no_distance o.tree) o.place (read_goes led_back (beyond n) no_distance (n + 1) symbol folds printed kind i depth m value (there_and_beyond n) l) in
+    omega (arith, w, small kind, looks_alike led_back (beyond n) o.tree, again_bytes led_back (beyond n) no_distance o.tree, both_again n o.tree)
 
 -- if no target is read beyond its reference, from each reference back to its target
 pub looks_led_back : (symbol : List ℕ) (folds printed : Bool) (kind : Kind) (i depth m : ℕ) (value : Bool) → i ≤ length symbol → OnlyBack (read_at symbol folds printed kind i depth m value).tree →
@@ -119,9 +123,9 @@ pub looks_up_to_end : (symbol : List ℕ) (folds printed : Bool) (kind : Kind) (
 looks_up_to_end symbol folds printed kind i depth m value l =
     let n : ℕ = length symbol in
     let o : Outcome = read_at symbol folds printed kind i depth m value in
-    let w : looks_of (work_of (up_to_end n) no_distance o.tree) + 8 ≤ 17 * reach n i o.place + start kind + 17 * bytes_of (work_of (up_to_end n) no_distance o.tree) =
-    whole (loan 0 (max_depth - depth)) n i (start kind) (work_of (up_to_end n) no_distance o.tree) o.place (read_goes (up_to_end n) no_distance 0 symbol folds printed kind i depth m value (all_before n) l) in
-    omega (arith, w, small kind, same_looks (up_to_end n) no_distance o.tree, again_bytes (up_to_end n) no_distance o.tree, none_again o.tree)
+    let w : looks_of (work_of (up_to_end n) no_distance no_distance o.tree) + 8 ≤ 17 * reach n i o.place + start kind + 17 * bytes_of (work_of (up_to_end n) no_distance no_distance o.tree) =
+    whole (loan 0 (max_depth - depth)) n i (start kind) (work_of (up_to_end n) no_distance no_distance o.tree) o.place (read_goes (up_to_end n) no_distance no_distance 0 symbol folds printed kind i depth m value (all_before n) l) in
+    omega (arith, w, small kind, looks_alike (up_to_end n) no_distance o.tree, again_bytes (up_to_end n) no_distance no_distance o.tree, none_again o.tree)
 
 pub loans : (gap m : ℕ) → loan gap m ≡ 17 * gap * m
 loans gap zero = omega arith
@@ -145,8 +149,8 @@ forms_alike plain (referred t j end inside) = forms_alike plain inside
 forms_alike plain _ = refl
 
 -- the looks that a tree allows, in either form, printed or not
-pub allowed_work : (before after : Distance) (plain out : Bool) (t : Tree) → allowed_in (events plain out t) ≡ looks_of (work_of before after t)
-allowed_work before after plain out t = allowed_looks plain out t ∙ (either_form plain t ∙ sym (same_looks before after t))
+pub allowed_work : (before after : Distance) (plain out : Bool) (t : Tree) → allowed_in (events plain out t) ≡ looks_of (work_of before after no_distance t)
+allowed_work before after plain out t = allowed_looks plain out t ∙ (either_form plain t ∙ sym (looks_alike before after t))
   where
     either_form : (plain : Bool) (t : Tree) → looks_of (costs_of plain t) ≡ looks_of (costs_of true t)
     either_form plain t = sym (allowed_looks plain false t) ∙ (forms_alike plain t ∙ allowed_looks true false t)
@@ -162,9 +166,9 @@ unfolding path_again
 path_looks symbol form plain =
     let n : ℕ = length symbol in
     let o : Outcome = read_at symbol form.fold_arguments true a_path 0 0 0 true in
-    let g : Within led_back (beyond n) (loan (n + 1) (max_depth - 0)) n 0 0 8 o = read_goes led_back (beyond n) (n + 1) symbol form.fold_arguments true a_path 0 0 0 true (there_and_beyond n) (omega arith) in
+    let g : Within led_back (beyond n) no_distance (loan (n + 1) (max_depth - 0)) n 0 0 8 o = read_goes led_back (beyond n) no_distance (n + 1) symbol form.fold_arguments true a_path 0 0 0 true (there_and_beyond n) (omega arith) in
     let w : looks_in o + 6 ≤ 17 * (reach n 0 o.place + again (read_again n) o.tree) = looks_again symbol form.fold_arguments true a_path 0 0 0 true (omega arith) in
-    omega (arith, w, reach_most (loan (n + 1) (max_depth - 0)) n 0 0 8 (work_of led_back (beyond n) o.tree) o.place (omega arith) g, allowed_work led_back (beyond n) plain true o.tree, same_looks led_back (beyond n) o.tree)
+    omega (arith, w, reach_most (loan (n + 1) (max_depth - 0)) n 0 0 8 (work_of led_back (beyond n) no_distance o.tree) o.place (omega arith) g, allowed_work led_back (beyond n) plain true o.tree, looks_alike led_back (beyond n) o.tree)
 
 -- The number of references that are followed.
 
@@ -187,6 +191,6 @@ pub looks_by_references : (symbol : List ℕ) (folds printed : Bool) (kind : Kin
 looks_by_references symbol folds printed kind i depth m value l =
     let n : ℕ = length symbol in
     let o : Outcome = read_at symbol folds printed kind i depth m value in
-    let g : Within led_back (beyond n) (loan (n + 1) (max_depth - depth)) n i (start kind) 8 o = read_goes led_back (beyond n) (n + 1) symbol folds printed kind i depth m value (there_and_beyond n) l in
+    let g : Within led_back (beyond n) no_distance (loan (n + 1) (max_depth - depth)) n i (start kind) 8 o = read_goes led_back (beyond n) no_distance (n + 1) symbol folds printed kind i depth m value (there_and_beyond n) l in
     let w : looks_in o + 6 ≤ 17 * (reach n i o.place + again (up_to_end n) o.tree) = looks_up_to_end symbol folds printed kind i depth m value l in
-    omega (arith, w, reach_most (loan (n + 1) (max_depth - depth)) n i (start kind) 8 (work_of led_back (beyond n) o.tree) o.place l g, up_to_end_most n o.tree)
+    omega (arith, w, reach_most (loan (n + 1) (max_depth - depth)) n i (start kind) 8 (work_of led_back (beyond n) no_distance o.tree) o.place l g, up_to_end_most n o.tree)

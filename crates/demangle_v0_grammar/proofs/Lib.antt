@@ -34,4 +34,5 @@ pub mod Unique
 pub mod UnitTraces
 pub mod V0Reading
 pub mod NoErrors
+mod NoReferences
 pub mod Folded

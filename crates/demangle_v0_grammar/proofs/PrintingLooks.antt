@@ -3,7 +3,7 @@ use Rattle.std.specs.Prelude.{ℕ, ◌*◌}
 use Rattle.std.proofs.Common.{◌≡◌, ◌+◌, ◌-◌, Bool, true, false, List, [], ◌∷◌, ◌++◌, length, refl, ap, sym, ◌∙◌, subst, append_assoc, arith}
 use Rattle.std.proofs.lemmas.List.{map-append, append-nil}
 use Rattle.demangle_v0_grammar.specs.LookBudget.{LookCost, IsWithinBudget}
-use Rattle.demangle_v0_grammar.specs.Traces.{Event, events, cost_of}
+use Rattle.demangle_v0_grammar.specs.Traces.{Event, returns, events, cost_of}
 use Rattle.demangle_v0_grammar.specs.Reading.{Tree, nothing, piece, plain_piece, node, looked, unprinted, referred, costs_of, looks_only, looks}
 use Rattle.demangle_v0_grammar.proofs.BudgetRules.{IsWithinBudget-more, IsWithinBudget-parts, IsWithinBudget-mapped}
 use Rattle.demangle_v0_grammar.proofs.PrintingSteps.{weighed}
@@ -54,7 +54,12 @@ pays_events r c plain (unprinted inside rest) ys zs f a h =
     IsWithinBudget-mapped cost_of r a c (events plain false inside) (events plain true rest) zs
     (pays_quiet r c plain inside (costs_of plain rest ++ ys) (weighed (events plain true rest) ++ zs) (λ a'. pays_events r c plain rest ys zs f a') a
     (IsWithinBudget-parts r a c (looks_only (costs_of plain inside)) (costs_of plain rest) ys _ refl h))
-pays_events r c plain (referred t j end inside) ys zs f a h = (omega arith, IsWithinBudget-more r a (a - 0 + r * 0) c c 0 _ (omega arith) (omega arith) (pays_events r c plain inside ys zs f a h))
+pays_events r c plain (referred t j end inside) ys zs f a h = (
+  omega arith,
+  IsWithinBudget-more r a (a - 0 + r * 0) c c 0 _ (omega arith) (omega arith)
+      (IsWithinBudget-mapped cost_of r a c (events plain true inside) (returns end ∷ []) zs
+      (pays_events r c plain inside ys (looks 0 ∷ zs) (λ a' p. (omega arith, IsWithinBudget-more r a' (a' - 0 + r * 0) c c 0 zs (omega arith) (omega arith) (f a' p))) a h)),
+)
 pays_events r c plain _ ys zs f a h = (h.0, f _ h.1)
 
 pub pays_tree : (r a c : ℕ) (plain : Bool) (t : Tree) → IsWithinBudget r a (costs_of plain t) c → IsWithinBudget r a (weighed (events plain true t)) c

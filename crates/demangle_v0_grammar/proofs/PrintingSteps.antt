@@ -1,17 +1,19 @@
 -- A trace as pieces, and as costs that a budget pays for.
 use Rattle.std.specs.Prelude.{map}
 use Rattle.std.proofs.Common.{◌≡◌, ℕ, Bool, true, false, List, [], ◌∷◌, ◌++◌, refl, ap, ◌∙◌}
+use Rattle.std.proofs.lemmas.List.{append-nil}
 use Rattle.demangle_v0_grammar.specs.LookBudget.{LookCost}
 use Rattle.demangle_v0_grammar.specs.Items.{Text}
 use Rattle.demangle_v0_grammar.specs.References.{Move}
 use Rattle.demangle_v0_grammar.specs.Reading.{Tree, piece, plain_piece, node, looked, unprinted, referred, pieces, looks, text_cost}
-use Rattle.demangle_v0_grammar.specs.Traces.{Event, prints_text, allows, refers, text_if, moves_in, texts_then, looks_then, events, texts_in, cost_of}
+use Rattle.demangle_v0_grammar.specs.Traces.{Event, prints_text, allows, refers, returns, text_if, moves_in, texts_then, looks_then, events, texts_in, cost_of}
 
 shown_append : (xs ys : List Event) → texts_in (xs ++ ys) ≡ texts_in xs ++ texts_in ys
 shown_append [] ys = refl
 shown_append (prints_text t ∷ xs) ys = ap (λ (zs : List Text). t ∷ zs) (shown_append xs ys)
 shown_append (allows k ∷ xs) ys = shown_append xs ys
-shown_append (refers ∷ xs) ys = shown_append xs ys
+shown_append (refers t ∷ xs) ys = shown_append xs ys
+shown_append (returns e ∷ xs) ys = shown_append xs ys
 
 both_empty : (xs ys : List Text) → xs ≡ [] → ys ≡ [] → xs ++ ys ≡ []
 both_empty xs ys e f = rw (e, f) refl
@@ -37,7 +39,11 @@ both_still (prints_text t ∷ xs) ys e f = absurd (some_none e)
     some_none : {m : Move} {ms : List Move} → m ∷ ms ≡ [] → ⊥
     some_none z = cc
 both_still (allows k ∷ xs) ys e f = both_still xs ys e f
-both_still (refers ∷ xs) ys e f = absurd (some_none e)
+both_still (refers t ∷ xs) ys e f = absurd (some_none e)
+  where
+    some_none : {m : Move} {ms : List Move} → m ∷ ms ≡ [] → ⊥
+    some_none z = cc
+both_still (returns p ∷ xs) ys e f = absurd (some_none e)
   where
     some_none : {m : Move} {ms : List Move} → m ∷ ms ≡ [] → ⊥
     some_none z = cc
@@ -67,7 +73,7 @@ shown_events plain (plain_piece x rest) = shown_plain plain x rest (events plain
 shown_events plain (node inside rest) = shown_append (events plain true inside) (events plain true rest) ∙ (ap (λ xs. xs ++ texts_in (events plain true rest)) (shown_events plain inside) ∙ ap (λ ys. pieces plain inside ++ ys) (shown_events plain rest))
 shown_events plain (looked k rest) = shown_events plain rest
 shown_events plain (unprinted inside rest) = shown_append (events plain false inside) (events plain true rest) ∙ (ap (λ xs. xs ++ texts_in (events plain true rest)) (quiet_events plain inside) ∙ shown_events plain rest)
-shown_events plain (referred t j end inside) = shown_events plain inside
+shown_events plain (referred t j end inside) = shown_append (events plain true inside) (returns end ∷ []) ∙ (append-nil (texts_in (events plain true inside)) ∙ shown_events plain inside)
 shown_events plain _ = refl
 
 -- the same as costs

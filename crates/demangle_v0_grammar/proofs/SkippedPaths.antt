@@ -2,11 +2,11 @@
 use Rattle.std.specs.Prelude.{ℕ, ◌+◌}
 use Rattle.std.proofs.Common.{◌≡◌, Bool, false, List, [], ◌∷◌, ◌++◌, Some, None, refl, ap, ◌∙◌}
 use Rattle.demangle_v0_grammar.specs.LookTotals.{total}
-use Rattle.demangle_v0_grammar.specs.Traces.{Event, prints_text, allows, refers, events, moves_in, looks_then, Trace, of, and_then, with_looks, context_at}
+use Rattle.demangle_v0_grammar.specs.Traces.{Event, prints_text, allows, refers, returns, events, moves_in, looks_then, Trace, of, and_then, with_looks, context_at}
 use Rattle.demangle_v0_grammar.specs.Items.{a_path, Items, skip}
 use Rattle.demangle_v0_grammar.specs.Reading.{Form, Place, Outcome, Context, parse, level_of, levels}
 use Rattle.demangle_v0_grammar.specs.LookTotals.{allowed_in}
-use Rattle.demangle_v0_grammar.specs.References.{says, follows}
+use Rattle.demangle_v0_grammar.specs.References.{says, follows, ends}
 use Rattle.demangle_v0_grammar.proofs.PrintingSteps.{quiet_moves}
 use Rattle.demangle_v0_grammar.proofs.UnprintedTraces.{silent_unit}
 
@@ -15,13 +15,15 @@ abbrev pub allowances : List Event → List ℕ
 allowances [] = []
 allowances (prints_text t ∷ xs) = allowances xs
 allowances (allows k ∷ xs) = k ∷ allowances xs
-allowances (refers ∷ xs) = allowances xs
+allowances (refers t ∷ xs) = allowances xs
+allowances (returns e ∷ xs) = allowances xs
 
 pub total_allowances : (xs : List Event) → total (allowances xs) ≡ allowed_in xs
 total_allowances [] = refl
 total_allowances (prints_text t ∷ xs) = total_allowances xs
 total_allowances (allows k ∷ xs) = ap (λ n. k + n) (total_allowances xs)
-total_allowances (refers ∷ xs) = total_allowances xs
+total_allowances (refers t ∷ xs) = total_allowances xs
+total_allowances (returns e ∷ xs) = total_allowances xs
 
 some_none : {A : Type 0} (x : A) (xs : List A) → x ∷ xs ≡ [] → ⊥
 some_none x xs e = cc
@@ -30,7 +32,8 @@ only_allowed : (xs ys : List Event) → moves_in xs ≡ [] → xs ++ ys ≡ look
 only_allowed [] ys e = refl
 only_allowed (prints_text t ∷ xs) ys e = absurd (some_none (says t) (moves_in xs) e)
 only_allowed (allows k ∷ xs) ys e = ap (λ zs. allows k ∷ zs) (only_allowed xs ys e)
-only_allowed (refers ∷ xs) ys e = absurd (some_none follows (moves_in xs) e)
+only_allowed (refers t ∷ xs) ys e = absurd (some_none (follows t) (moves_in xs) e)
+only_allowed (returns p ∷ xs) ys e = absurd (some_none (ends p) (moves_in xs) e)
 
 -- a parse that is not printed allows looks, and nothing more
 pub silent_allowed : (form : Form) (o : Outcome) (k : Place → Bool → Trace) → and_then (of form false o) k ≡ with_looks (allowances (of form false o).events) (k o.place o.is_bracket_open)

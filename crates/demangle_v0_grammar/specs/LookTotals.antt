@@ -1,7 +1,7 @@
 -- Internal: no public contract cites this.
 -- The sums of looks that are allowed.
 use Rattle.std.specs.Prelude.{List, [], ℕ, ◌+◌, ◌∷◌}
-use Rattle.demangle_v0_grammar.specs.Traces.{Event, allows, prints_text, refers}
+use Rattle.demangle_v0_grammar.specs.Traces.{Event, allows, prints_text, refers, returns}
 
 -- The sum of several allowances of looks.
 
@@ -16,4 +16,5 @@ abbrev pub allowed_in : List Event → ℕ
 allowed_in [] = 0
 allowed_in (prints_text t ∷ xs) = allowed_in xs
 allowed_in (allows k ∷ xs) = k + allowed_in xs
-allowed_in (refers ∷ xs) = allowed_in xs
+allowed_in (refers t ∷ xs) = allowed_in xs
+allowed_in (returns e ∷ xs) = allowed_in xs

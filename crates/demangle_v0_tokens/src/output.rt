@@ -1,7 +1,7 @@
 //! The outputs to which the parser sends its tokens: a sink, or none.
 ghost use Rattle.std.specs.Prelude.{◌≡◌, ◌+◌, ◌≤◌, ℕ, List, Bool, Result, true, false, IsAscii, IsOk, OnOk};
 ghost use Rattle.demangle_v0_tokens.specs.Tokens.{texts_of, print_looks};
-ghost use Rattle.demangle_sink.specs.Limit.{Follows, Prints, Ready};
+ghost use Rattle.demangle_sink.specs.Limit.{Follows, GivesBack, Prints, Ready, and_one};
 ghost use Rattle.demangle_v0_tokens.specs.Tokens.{IsTokenWithin};
 ghost use Rattle.demangle_sink.specs.declared.SinkRefused.{SinkRefused};
 
@@ -24,8 +24,12 @@ pub trait Output {
     // Relates the output before, the texts of a token, the result, and the output after.
     ghost prints: { Self → List (List ℕ) → Result (Unit {0}) SinkRefused → Self → Type 0 };
 
-    // Relates the output before a reference is followed, the result, and the output after.
-    ghost follows: { Self → Result (Unit {0}) SinkRefused → Self → Type 0 };
+    // Relates the output before a reference is followed, the number of bytes that may be read again
+    // for it, the result, and the output after.
+    ghost follows: { Self → ℕ → Result (Unit {0}) SinkRefused → Self → Type 0 };
+
+    // Relates the output before bytes are given back, their number, and the output after.
+    ghost gives_back: { Self → ℕ → Self → Type 0 };
 
     /// Returns `true` if tokens are printed.
     fn is_printing(&self) -> bool
@@ -52,15 +56,20 @@ pub trait Output {
         ensures grows { looks.old ≤ looks.new }
         ensures most { looks.new ≤ looks.old + print_looks token.now };
 
-    /// Counts a reference that is followed.
+    /// Counts the bytes that a reference may make the parser read again, and one more.
     ///
     /// # Errors
     ///
-    /// Returns `SinkRefused` if as many were followed as the output allows.
-    fn follow(&mut self) -> Result<(), SinkRefused>
+    /// Returns `SinkRefused` if the output allows fewer.
+    fn follow(&mut self, bytes: usize) -> Result<(), SinkRefused>
         requires ready { ready self.old }
-        ensures follows { follows self.old result self.new }
+        ensures follows { follows self.old (bytes + 1) result self.new }
         ensures ready { OnOk result (ready self.new) };
+
+    /// Gives back these bytes, which were not read, and one more. Gives back none for `None`.
+    fn give_back(&mut self, bytes: Option<usize>)
+        ensures back { gives_back self.old (and_one bytes) self.new }
+        ensures ready { ready self.old → ready self.new };
 
     /// Prints the token of a syntax error.
     ///
@@ -94,7 +103,9 @@ impl Output for NoOutput {
 
     ghost prints = { λ v texts result w. Unit {0} };
 
-    ghost follows = { λ v result w. Unit {0} };
+    ghost follows = { λ v n result w. Unit {0} };
+
+    ghost gives_back = { λ v n w. Unit {0} };
 
     #[inline(always)]
     fn is_printing(&self) -> bool {
@@ -112,9 +123,12 @@ impl Output for NoOutput {
     }
 
     #[inline(always)]
-    fn follow(&mut self) -> Result<(), SinkRefused> {
+    fn follow(&mut self, _bytes: usize) -> Result<(), SinkRefused> {
         Ok(())
     }
+
+    #[inline(always)]
+    fn give_back(&mut self, _bytes: Option<usize>) {}
 
     #[inline(always)]
     fn emit_error(
@@ -134,7 +148,9 @@ impl<'s, S: TextSink> Output for SizeLimitedFmtAdapter<'s, S> {
 
     ghost prints = { λ v texts result w. Prints S.TextSink v texts result w };
 
-    ghost follows = { λ v result w. Follows v result w };
+    ghost follows = { λ v n result w. Follows v n result w };
+
+    ghost gives_back = { λ v n w. GivesBack v n w };
 
     #[inline(always)]
     fn is_printing(&self) -> bool {
@@ -152,8 +168,13 @@ impl<'s, S: TextSink> Output for SizeLimitedFmtAdapter<'s, S> {
     }
 
     #[inline(always)]
-    fn follow(&mut self) -> Result<(), SinkRefused> {
-        SizeLimitedFmtAdapter::follow(self)
+    fn follow(&mut self, bytes: usize) -> Result<(), SinkRefused> {
+        SizeLimitedFmtAdapter::follow(self, bytes)
+    }
+
+    #[inline(always)]
+    fn give_back(&mut self, bytes: Option<usize>) {
+        SizeLimitedFmtAdapter::give_back(self, bytes)
     }
 
     #[inline(always)]

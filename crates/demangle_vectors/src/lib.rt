@@ -4,7 +4,8 @@
 ghost use Rattle.std.specs.Prelude.{◌≡◌, ◌≢◌, ◌≤◌, IsTrue, false};
 ghost use Rattle.rustc_demangle.specs.Cut.{size};
 ghost use Rattle.rustc_demangle.specs.Stripped.{stripped};
-ghost use Rattle.rustc_demangle.specs.Symbols.{handed, most_bytes, printed};
+ghost use Rattle.rustc_demangle.specs.Limits.{most_bytes};
+ghost use Rattle.rustc_demangle.specs.Symbols.{handed, printed};
 
 #[cfg(test)]
 mod tests;

@@ -1,5 +1,6 @@
 //! The demangler as a WebAssembly module for web pages. It exports the calls of the library for C
-//! that a page needs, and two calls that find the symbols of a text.
+//! that a page needs, and three calls that find the symbols of a text. The paths of single symbols
+//! have the limit of the bytes that are read again, too.
 #![tactic(auto)]
 
 ghost use Rattle.std.specs.Prelude.{◌≡◌, ◌+◌, ◌<◌, ◌≤◌, ◌↔◌, ℕ, true, false, drop, length, IsTrue};
@@ -7,19 +8,19 @@ ghost use Prim.Native.Nat.{min};
 ghost use Rattle.std.specs.List.{prefix_len};
 ghost use Rattle.rustc_demangle.specs.Cut.{size};
 ghost use Rattle.rustc_demangle.specs.Filtered.{is_run_byte, starts_run};
-ghost use Rattle.rustc_demangle.specs.Rewritten.{before_after, rewritten_in, rewritten_within, IsPlainLen};
+ghost use Rattle.rustc_demangle.specs.Rewritten.{before_after, rewritten_in, IsPlainLen};
 ghost use Rattle.rustc_demangle.specs.declared.byte_before.ByteBefore.TheVariants.{Outside, Alphanumeric};
 ghost use Rattle.rustc_demangle.specs.Slice.{overlay};
-ghost use Rattle.rustc_demangle.specs.Symbols.{folded};
-ghost use Rattle.demangle_c_string.specs.CString.{IsRustSymbol, path_in, path_within, c_string};
+ghost use Rattle.demangle_c_string.specs.CString.{IsRustSymbol, path_in_text, c_string, texts};
 
 #[cfg(test)]
 mod tests;
 
 use demangle_c_string::{
-    MAX_SIZE, symbol_of, write_part, write_part_formatted, write_text, write_text_formatted,
+    MAX_SIZE, symbol_of, write_folded_path_in_text, write_folded_text, write_path_in_text,
+    write_text,
 };
-use rustc_demangle::{Format, plain_len, run_len, run_start};
+use rustc_demangle::{plain_len, run_len, run_start};
 
 /// Returns `true` if the bytes are a Rust symbol, after a suffix of ThinLTO is removed.
 ///
@@ -35,8 +36,9 @@ pub extern "C" fn kodliwe_is_symbol(symbol: &[u8]) -> bool
 /// Writes the path of a Rust symbol to memory, with a 0 after it. Returns the number of bytes of
 /// the path and the 0.
 ///
-/// The path is cut at `limit` bytes, and at 1,000,000 at most. `{size limit reached}` and the
-/// symbol's suffix follow a cut path.
+/// The path is cut at `limit` bytes, and at 1,000,000 at most. It is also cut where the references of
+/// the symbol would make a print read more than 384 bytes again for each of its own, or more than
+/// 384,000,000. `{size limit reached}` and the symbol's suffix follow a cut path.
 ///
 /// If the bytes are not a symbol, the call returns 0 and leaves the memory unchanged. Otherwise the
 /// result does not depend on the size of the memory. The memory receives the path and its 0 if the
@@ -52,12 +54,12 @@ pub extern "C" fn kodliwe_demangle_limited(
 ) -> usize
     ensures none { (IsRustSymbol symbol.now → ⊥) → (result ≡ 0) × (out.new ≡ out.old) }
     ensures size { IsRustSymbol symbol.now →
-        result ≡ length (path_within symbol.now include_hash (min limit MAX_SIZE)) + 1 }
+        result ≡ length (path_in_text symbol.now include_hash false (min limit MAX_SIZE)) + 1 }
     ensures text { IsRustSymbol symbol.now →
-        let path = path_within symbol.now include_hash (min limit MAX_SIZE) in
+        let path = path_in_text symbol.now include_hash false (min limit MAX_SIZE) in
         out.new ≡ overlay out.old (c_string (length out.old) path) }
 {
-    write_part(symbol, out, include_hash, limit, 0)
+    write_path_in_text(symbol, out, include_hash, limit)
 }
 
 /// Writes a path as `kodliwe_demangle_limited` does, with `_` for each list of generic arguments.
@@ -73,23 +75,27 @@ pub extern "C" fn kodliwe_demangle_folded(
 ) -> usize
     ensures none { (IsRustSymbol symbol.now → ⊥) → (result ≡ 0) × (out.new ≡ out.old) }
     ensures size { IsRustSymbol symbol.now →
-        result ≡ length (path_in symbol.now (folded include_hash (min limit MAX_SIZE))) + 1 }
+        result ≡ length (path_in_text symbol.now include_hash true (min limit MAX_SIZE)) + 1 }
     ensures text { IsRustSymbol symbol.now →
-        let path = path_in symbol.now (folded include_hash (min limit MAX_SIZE)) in
+        let path = path_in_text symbol.now include_hash true (min limit MAX_SIZE) in
         out.new ≡ overlay out.old (c_string (length out.old) path) }
 {
-    let format = Format::folded(include_hash, limit);
-    write_part_formatted(symbol, out, format, 0)
+    write_folded_path_in_text(symbol, out, include_hash, limit)
 }
 
 /// Writes bytes to memory with each Rust symbol replaced by its path, and a 0 after them. Returns
 /// the number of bytes of that text and the 0.
 ///
 /// A candidate symbol starts at `_ZN` or `_R`. It ends before the next byte that is not an ASCII
-/// letter, a digit, `$`, `.` or `_`. Its path is cut as by `kodliwe_demangle_limited`. It stays
-/// directly after an ASCII letter or digit. A path also replaces a single `_` before its symbol, if
-/// that `_` is the first byte or follows a byte that no symbol may have. All other bytes stay
-/// unchanged.
+/// letter, a digit, `$`, `.` or `_`. It stays directly after an ASCII letter or digit. A path also
+/// replaces a single `_` before its symbol, if that `_` is the first byte or follows a byte that no
+/// symbol may have. All other bytes stay unchanged.
+///
+/// Each path is cut at `limit` bytes, and at 1,000,000 at most. If `limit` is `usize::MAX`, none is
+/// given: then a symbol of n bytes is cut at 999 n - 20 bytes, and at 1,000,000 at most, so that the
+/// text has at most 1,000 bytes for each of its own. A path is also cut where the references of its
+/// symbol would make a print read more than 384 bytes again for each of its own, or more than
+/// 384,000,000. The marker `{size limit reached}` and the suffix follow a cut path.
 ///
 /// The result does not depend on the size of the memory. The memory receives as much of the text as
 /// fits before a 0, and no byte after the 0 is changed. The result is `usize::MAX` if the number is
@@ -102,12 +108,12 @@ pub extern "C" fn kodliwe_demangle_text(
     include_hash: bool,
     limit: usize,
 ) -> usize
-    ensures size { let rewritten = rewritten_within include_hash (min limit MAX_SIZE) text.now in
+    ensures size { let rewritten = rewritten_in (texts include_hash false limit) text.now in
         length rewritten < usize.MAX → result ≡ length rewritten + 1 }
-    ensures text { let rewritten = rewritten_within include_hash (min limit MAX_SIZE) text.now in
+    ensures text { let rewritten = rewritten_in (texts include_hash false limit) text.now in
         length rewritten < usize.MAX →
         out.new ≡ overlay out.old (c_string (length out.old) rewritten) }
-    ensures past { usize.MAX ≤ length (rewritten_within include_hash (min limit MAX_SIZE) text.now) →
+    ensures past { usize.MAX ≤ length (rewritten_in (texts include_hash false limit) text.now) →
         result ≡ usize.MAX }
 {
     write_text(text, out, include_hash, limit)
@@ -121,16 +127,15 @@ pub extern "C" fn kodliwe_demangle_text_folded(
     include_hash: bool,
     limit: usize,
 ) -> usize
-    ensures size { let rewritten = rewritten_in (folded include_hash (min limit MAX_SIZE)) text.now in
+    ensures size { let rewritten = rewritten_in (texts include_hash true limit) text.now in
         length rewritten < usize.MAX → result ≡ length rewritten + 1 }
-    ensures text { let rewritten = rewritten_in (folded include_hash (min limit MAX_SIZE)) text.now in
+    ensures text { let rewritten = rewritten_in (texts include_hash true limit) text.now in
         length rewritten < usize.MAX →
         out.new ≡ overlay out.old (c_string (length out.old) rewritten) }
-    ensures past { usize.MAX ≤ length (rewritten_in (folded include_hash (min limit MAX_SIZE)) text.now) →
+    ensures past { usize.MAX ≤ length (rewritten_in (texts include_hash true limit) text.now) →
         result ≡ usize.MAX }
 {
-    let format = Format::folded(include_hash, limit);
-    write_text_formatted(text, out, format)
+    write_folded_text(text, out, include_hash, limit)
 }
 
 /// Returns the index of the next `_ZN` or `_R` in a text, or the size of the text if it has

@@ -1,13 +1,12 @@
 -- The steps of the filter over one text.
-use Rattle.std.proofs.Common.{◌≡◌, ℕ, zero, ◌++◌, Bool, List, [], ◌∷◌, None, Some, IfSome, Ok, Err, IfErr, refl, sym, ap, subst, ◌∙◌, append_assoc, append-nil, length, arith}
+use Rattle.std.proofs.Common.{◌≡◌, ℕ, zero, ◌++◌, Bool, List, [], None, Some, IfSome, Ok, Err, IfErr, refl, sym, ap, subst, ◌∙◌, length, arith}
 use Rattle.std.specs.declared.option.Option.{Option}
 use Rattle.std.specs.declared.result.Result.{Result}
 use Rattle.std.specs.declared.io.Error.{Error}
 use Rattle.std.specs.Bool.{⊤}
-use Rattle.std.specs.Io.KnownBytes.{Appends, Keeps, prepend_known}
-use Rattle.std.proofs.KnownBytes.{Appends-trans, Appends-nil, Appends-kept}
+use Rattle.std.specs.Io.KnownBytes.{Appends, Keeps}
 use Rattle.std.proofs.lemmas.Option.{MatchOption-at_some}
-use Rattle.rustc_demangle.specs.Rewritten.{rewritten_by, rewritten_after, rewritten_in}
+use Rattle.rustc_demangle.specs.Rewritten.{rewritten_by, rewritten_after}
 use Rattle.rustc_demangle.specs.declared.byte_before.ByteBefore.{ByteBefore}
 use Rattle.rustc_demangle.specs.declared.byte_before.ByteBefore.TheVariants.{Outside}
 use Rattle.rustc_demangle.specs.declared.format.Format.{Format}
@@ -15,6 +14,8 @@ use Rattle.rustc_demangle.specs.ByteStream.{Unwritten, from_start, followed_by, 
 use Rattle.rustc_demangle.specs.declared.stream.fault.StreamFault.{StreamFault}
 use Rattle.rustc_demangle.specs.declared.stream.fault.StreamFault.TheVariants.{Read, NotUtf8, Write, Memory}
 use Rattle.rustc_demangle.proofs.ByteStreamLemmas.{Passing, passed_none, passed_trans}
+use Rattle.demangle_symbol.specs.declared.cursor.looks.RunLooks.{RunLooks}
+use Rattle.rustc_demangle.specs.LinearLooks.{LooksLinear, NoLooksUnread, StepPaid, all_looks}
 use Rattle.kodliwe.specs.Filtering.{FlushStepFiltered}
 
 -- bytes that were appended after a flush were appended since before it
@@ -137,3 +138,15 @@ refused_same m n fault pending left old new same = subst (λ (v : Format). IfSom
 pub stopped_same : (m n : Format) (fault : StreamFault) (held old new : Option (List ℕ)) → m ≡ n → IfSome held (λ text. BytesStopped (rewritten_after m) fault (from_start text) old new)
     → IfSome held (λ text. BytesStopped (rewritten_after n) fault (from_start text) old new)
 stopped_same m n fault held old new same = subst (λ (v : Format). IfSome held (λ text. BytesStopped (rewritten_after v) fault (from_start text) old new)) same
+
+-- a step whose reader was interrupted made no looks
+pub interrupted_paid : (format : Format) (fault : Error) (pending next : Unwritten) (left rest out out' : Option (List ℕ)) (old new : RunLooks)
+    → StepFailed (Read fault) pending next left rest out out' → NoLooksUnread (Read fault) old new → StepPaid format pending next left rest old new
+interrupted_paid format fault pending next None rest out out' old new failed same = tt
+interrupted_paid format fault pending next (Some xs) None out out' old new failed same = tt
+interrupted_paid format fault pending next (Some xs) (Some ys) out out' old new failed same =
+    λ e. omega (arith, ap length failed.2, ap (λ (u : Unwritten). length u.bytes) failed.1, ap all_looks same)
+
+-- nothing was looked at
+pub none_paid : (format : Format) (n : ℕ) (looks : RunLooks) → LooksLinear format n looks looks
+none_paid format n looks = λ e. omega arith

@@ -1,3 +1,5 @@
 pub mod FilteringLemmas
 pub mod ArgumentLemmas
 mod PartLemmas
+mod ProgramLooks
+mod ProgramOutput

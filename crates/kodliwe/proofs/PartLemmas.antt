@@ -11,12 +11,12 @@ use Rattle.std.proofs.lemmas.Option.{MatchOption-at_some}
 use Rattle.rustc_demangle.specs.Rewritten.{rewritten_after, rewritten_in}
 use Rattle.rustc_demangle.specs.ByteStream.{Unwritten, from_start, FilteredPrefix, IsWriting, BytesStopped}
 use Rattle.rustc_demangle.specs.Stripped.{stripped}
-use Rattle.rustc_demangle.specs.Symbols.{IsSymbol, form_of, pieces_in, handed_in}
+use Rattle.rustc_demangle.specs.Symbols.{IsSymbol, form_in, pieces_in, handed_in}
 use Rattle.rustc_demangle.specs.declared.format.Format.{Format}
 use Rattle.rustc_demangle.specs.declared.stream.fault.StreamFault.{StreamFault}
 use Rattle.rustc_demangle.specs.declared.stream.fault.StreamFault.TheVariants.{Read, NotUtf8, Write, Memory}
 use Rattle.rustc_demangle.proofs.SymbolLemmas.{pieces-symbol, symbol-pieces}
-use Rattle.kodliwe.specs.Parts.{PartText, text, argument_in, part_in, part_bytes, all_printed, Remain, WroteAll, StoppedIn, WrotePrefix, RunStopped}
+use Rattle.kodliwe.specs.Parts.{PartText, text, argument, argument_in, part_in, part_bytes, all_printed, Remain, WroteAll, StoppedIn, WrotePrefix, RunStopped}
 
 -- the parts that were written so far, and the ones that are left
 pub record Printing {X : Type 0} (f : X → List ℕ) (all held : List (Option X)) (old new : Option (List ℕ)) : Type 0 where
@@ -113,16 +113,16 @@ prefix_kept format all old mid new wrote keeps = λ xs is.
 pub argument_in-symbol : (format : Format) (given symbol : List ℕ) → symbol ≡ stripped given → IsSymbol (stripped given) → concat (handed_in symbol format) ≡ argument_in format given
 argument_in-symbol format given symbol same is =
     ap (λ s. concat (handed_in s format)) same
-    ∙ sym (ap (λ read. option_map_or (λ (_ : List (List ℕ) × List ℕ). concat (handed_in (stripped given) format)) read (rewritten_in format given)) (pieces-symbol (form_of format) (stripped given) is).1)
+    ∙ sym (ap (λ read. option_map_or (λ (_ : List (List ℕ) × List ℕ). concat (handed_in (stripped given) format)) read (rewritten_in format given)) (pieces-symbol (form_in format (stripped given)) (stripped given) is).1)
 
 -- any other argument is filtered
 pub argument_in-no_symbol : (format : Format) (given bytes : List ℕ) → bytes ≡ given → (IsSymbol (stripped given) → ⊥) → rewritten_in format bytes ≡ argument_in format given
-argument_in-no_symbol format given bytes same none = ap (rewritten_in format) same ∙ sym (at (pieces_in (form_of format) (stripped given)) refl)
+argument_in-no_symbol format given bytes same none = ap (rewritten_in format) same ∙ sym (at (pieces_in (form_in format (stripped given)) (stripped given)) refl)
   where
-    at : (read : Option (List (List ℕ) × List ℕ)) → pieces_in (form_of format) (stripped given) ≡ read
+    at : (read : Option (List (List ℕ) × List ℕ)) → pieces_in (form_in format (stripped given)) (stripped given) ≡ read
         → option_map_or (λ _. concat (handed_in (stripped given) format)) read (rewritten_in format given) ≡ rewritten_in format given
     at None e = refl
-    at (Some read) e = absurd (none (symbol-pieces (form_of format) (stripped given) read e))
+    at (Some read) e = absurd (none (symbol-pieces (form_in format (stripped given)) (stripped given) read e))
 
 -- what a reader that is wrapped by another one still had was written, with a memo of the same value
 pub text_written : (format memo : Format) (part : Option PartText) (held kept old new : Option (List ℕ)) → memo ≡ format → part ≡ option_map text held → kept ≡ held
@@ -143,6 +143,18 @@ text_stopped format memo fault part held kept old new same is wraps stopped =
     at : (o : Option (List ℕ)) → IfSome o (λ t. BytesStopped (rewritten_after memo) fault (from_start t) old new) → IfSome (option_map text o) (λ p. BytesStopped (rewritten_after format) fault (from_start (part_bytes p)) old new)
     at None s = tt
     at (Some t) s = subst (λ (v : Format). BytesStopped (rewritten_after v) fault (from_start t) old new) same s
+
+-- an argument was written as a line, with a memo of the same value
+pub line_written : (format memo : Format) (part : Option PartText) (given : List ℕ) (old new : Option (List ℕ)) → memo ≡ format → part ≡ Some (argument given)
+    → Appends old new (argument_in memo given ++ 10 ∷ []) → IfSome part (λ p. Appends old new (part_in format p))
+line_written format memo part given old new same is wrote =
+    subst (λ o. IfSome o (λ p. Appends old new (part_in format p))) (sym is) (subst (λ (v : Format). Appends old new (part_in v (argument given))) same wrote)
+
+-- the same after an error
+pub line_stopped : (format memo : Format) (fault : StreamFault) (part : Option PartText) (given : List ℕ) (old new : Option (List ℕ)) → memo ≡ format → part ≡ Some (argument given)
+    → BytesStopped (rewritten_after memo) fault (from_start given) old new → IfSome part (λ p. BytesStopped (rewritten_after format) fault (from_start (part_bytes p)) old new)
+line_stopped format memo fault part given old new same is stopped =
+    subst (λ o. IfSome o (λ p. BytesStopped (rewritten_after format) fault (from_start (part_bytes p)) old new)) (sym is) (subst (λ (v : Format). BytesStopped (rewritten_after v) fault (from_start given) old new) same stopped)
 
 -- the result of a write of another text, which is the same
 pub wrote_same : {E : Type 0} (r : Result (Unit {0}) E) (old new : Option (List ℕ)) (a b : List ℕ) → a ≡ b → OnOk r (Appends old new a) → OnOk r (Appends old new b)

@@ -4,6 +4,8 @@ use Rattle.std.specs.declared.option.Option.{Option}
 use Rattle.std.specs.Option.{option_map}
 use Rattle.std.specs.List.{starts_with}
 use Rattle.std.specs.Str.Parse.{IsNumeral, digits_value, without_leading_plus}
+use Rattle.rustc_demangle.specs.declared.format.SizeLimit.{SizeLimit}
+use Rattle.rustc_demangle.specs.declared.format.SizeLimit.TheVariants as size
 use Rattle.kodliwe.specs.declared.about.About.{About}
 use Rattle.kodliwe.specs.declared.about.About.TheVariants.{Help, Version, Manual, Completions}
 use Rattle.kodliwe.specs.declared.about.Shell.{Shell}
@@ -37,11 +39,16 @@ pub record Options : Type 0 where
   pub output : Option OutputTarget
   pub keeps_hash : Bool
   pub folds : Bool
-  pub limit : ℕ
+  pub limit : Option ℕ
+
+-- the limit of each path: that of `-l`, or, without it, one that is linear in the length of the symbol
+abbrev pub size_limit : Option ℕ → SizeLimit
+size_limit None = size.Linear
+size_limit (Some bytes) = size.Bytes bytes
 
 -- the options before any argument is read
 abbrev pub defaults : Options
-defaults = record { parts = []; output = None; keeps_hash = false; folds = false; limit = 1000000 }
+defaults = record { parts = []; output = None; keeps_hash = false; folds = false; limit = None }
 
 -- The result of parsing the arguments: a request, or the error and the argument that caused it.
 pub data ParsedAs : Type 0 where
@@ -117,7 +124,7 @@ IsNumber text = IsNumeral 10 (without_leading_plus text) × (digits_value 10 (wi
 abbrev pub Sets : ValuedOption → List ℕ → Options → Options → Type 0
 Sets Input value old new = (part : InputPart) × IsInputPart value part × (new ≡ record old { parts = part ∷ old.parts })
 Sets Output value old new = (old.output ≡ None) × (target : OutputTarget) × IsOutputTarget value target × (new ≡ record old { output = Some target })
-Sets Limit value old new = IsNumber value × (new ≡ record old { limit = digits_value 10 (without_leading_plus value) })
+Sets Limit value old new = IsNumber value × (new ≡ record old { limit = Some (digits_value 10 (without_leading_plus value)) })
 
 -- the value is an error: a second output, or not a number of bytes
 abbrev pub IsInvalidValue : Options → ValuedOption → List ℕ → List ℕ → ParsedAs → Type 0

@@ -1,5 +1,5 @@
 -- What the parts of the output print: texts and arguments.
-use Rattle.std.specs.Prelude.{◌≡◌, ℕ, List, [], ◌∷◌, ◌++◌, None, Some, option_map}
+use Rattle.std.specs.Prelude.{◌≡◌, ℕ, List, [], ◌∷◌, ◌++◌, Some, option_map}
 use Rattle.std.specs.List.{concat}
 use Rattle.std.specs.Option.{option_map_or}
 use Rattle.std.specs.declared.option.Option.{Option}
@@ -7,13 +7,11 @@ use Rattle.std.specs.Io.KnownBytes.{Appends}
 use Rattle.rustc_demangle.specs.ByteStream.{SplitsNoCandidate}
 use Rattle.rustc_demangle.specs.Rewritten.{rewritten_in}
 use Rattle.rustc_demangle.specs.Stripped.{stripped}
-use Rattle.rustc_demangle.specs.Symbols.{form_of, handed_in, pieces_in}
+use Rattle.rustc_demangle.specs.Symbols.{form_in, handed_in, pieces_in}
 use Rattle.rustc_demangle.specs.declared.byte_before.ByteBefore.TheVariants.{Outside}
 use Rattle.rustc_demangle.specs.declared.format.Format.{Format}
 use Rattle.rustc_demangle.specs.declared.stream.fault.StreamFault.{StreamFault}
 use Rattle.rustc_demangle.specs.declared.stream.fault.StreamFault.TheVariants.{Read, NotUtf8, Write, Memory}
-use Rattle.kodliwe.specs.declared.arguments.InputSource.{InputSource}
-use Rattle.kodliwe.specs.declared.arguments.InputSource.TheVariants as sources
 use Rattle.kodliwe.specs.declared.filtering.Part.{Part}
 use Rattle.kodliwe.specs.declared.filtering.Part.TheVariants as parts
 
@@ -34,7 +32,7 @@ part_of remaining (parts.Argument given) = Some (argument given.now)
 
 -- What an argument prints. If the whole argument is a symbol, that is the symbol. Otherwise it is filtered.
 abbrev pub argument_in : Format → List ℕ → List ℕ
-argument_in format given = option_map_or (λ _. concat (handed_in (stripped given) format)) (pieces_in (form_of format) (stripped given))
+argument_in format given = option_map_or (λ _. concat (handed_in (stripped given) format)) (pieces_in (form_in format (stripped given)) (stripped given))
     (rewritten_in format given)
 
 -- What a part prints. An argument is a line.

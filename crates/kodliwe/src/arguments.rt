@@ -40,8 +40,8 @@ pub struct Request<'a> {
     pub include_hash: bool,
     /// Whether `_` is printed for generic arguments.
     pub fold_arguments: bool,
-    /// The largest number of bytes of a path.
-    pub limit: usize,
+    /// The value of `-l`, the most bytes of a path, if it was given.
+    pub limit: Option<usize>,
 }
 
 /// The action that the arguments request.

@@ -17,7 +17,7 @@ Options:
   -o, --output FILE   Write FILE once all is read; - is standard output
       --hash          Keep the hashes of legacy symbols (foo::h05af221e174051e9)
   -f, --fold          Print generic arguments as _ (Vec<_> for Vec<u8>)
-  -l, --limit BYTES   Cut each path at BYTES (1000000 if not given)
+  -l, --limit BYTES   Cut each path at BYTES (at most 1000000 if not given)
       --man           Print the manual page; kodliwe --man | man -l - shows it
       --completions SHELL  Print the completions of bash, zsh or fish
   -h, --help          Print this help

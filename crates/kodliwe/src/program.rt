@@ -1,5 +1,6 @@
 //! Runs the program on any file system and standard streams.
 ghost use Rattle.std.specs.Prelude.{◌≡◌, ◌<◌, ◌∷◌, [], length, IfOk, OnOk};
+ghost use Rattle.kodliwe.specs.CommandLine.{size_limit};
 
 mod hint;
 mod output;
@@ -13,7 +14,7 @@ use crate::inputs::{LineReader, STDIN_NAME, SourceReader};
 use crate::program::hint::note_file;
 use crate::program::output::{Filtering, SourceParts};
 use crate::same_file::input_that_is_output;
-use rustc_demangle::{Form, Format};
+use rustc_demangle::{Form, Format, RereadLimit, SizeLimit};
 use std::alloc::{AllocError, Global};
 use std::fs::Files;
 use std::io;
@@ -144,11 +145,22 @@ fn add_default(sources: &mut Vec<InputSource<'_>>) -> Result<(), AllocError>
     Ok(())
 }
 
+/// Returns the limit of the paths, from the value of `-l`, if it was given.
+fn size_limit(limit: Option<usize>) -> SizeLimit
+    ensures { result ≡ size_limit limit }
+{
+    match limit {
+        Some(limit) => SizeLimit::Bytes(limit),
+        None => SizeLimit::Linear,
+    }
+}
+
 /// Returns the settings that the arguments request.
 fn settings_of(alloc: Global, request: &Request<'_>) -> Settings
     ensures hash { result.format.form.include_hash ≡ request.now.include_hash }
     ensures fold { result.format.form.fold_arguments ≡ request.now.fold_arguments }
-    ensures limit { result.format.limit ≡ request.now.limit }
+    ensures limit { result.format.limit ≡ size_limit request.now.limit }
+    ensures reread { result.format.reread ≡ RereadLimit.Linear }
 {
     let form = Form {
         include_hash: request.include_hash,
@@ -156,11 +168,7 @@ fn settings_of(alloc: Global, request: &Request<'_>) -> Settings
     };
     Settings {
         alloc,
-        format: Format {
-            form,
-            limit: request.limit,
-            references: None,
-        },
+        format: Format::bounded(form, size_limit(request.limit)),
     }
 }
 

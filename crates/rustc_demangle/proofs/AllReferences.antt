@@ -1,4 +1,4 @@
--- The pieces of a path up to a limit of references.
+-- The pieces of a path up to a limit of the bytes that are read again.
 use Rattle.std.specs.Prelude.{IfSome}
 use Rattle.std.proofs.Common.{◌≡◌, ℕ, ◌+◌, ◌*◌, ◌-◌, ◌≤◌, ◌<◌, Bool, true, false, List, [], ◌∷◌, ◌++◌, Option, None, Some, Result, Ok, refl, sym, ap, ◌∙◌, subst, arith, inl, inr, length}
 use Rattle.std.proofs.lemmas.Bool.{false≢true}
@@ -8,11 +8,13 @@ use Rattle.demangle_sink.specs.Cut.{size, prefix_within, cut, cut_up_to, kept, m
 use Rattle.demangle_sink.specs.declared.TextSink.{Ghosts}
 use Rattle.demangle_sink.specs.declared.SinkRefused.{SinkRefused}
 use Rattle.demangle_sink.specs.declared.limit.SizeLimitedFmtAdapter.{SizeLimitedFmtAdapter}
-use Rattle.demangle_sink.specs.Limit.{PrintsUpTo}
+use Rattle.demangle_sink.specs.Limit.{PrintsUpTo, unused}
+use Rattle.demangle_sink.specs.declared.limit.Reread.{Reread}
 use Rattle.demangle_sink.proofs.CutLemmas.{size-append, fitting-all, fitting-append, fitting-stop, fitting-none, fitting-more}
 use Rattle.demangle_sink.proofs.PrintsLemmas.{cut-within, cut-past}
 use Rattle.demangle_v0_grammar.specs.Reading as reading
-use Rattle.demangle_v0_grammar.specs.References.{path_texts_before, is_path_whole}
+use Rattle.demangle_v0_grammar.specs.References.{path_texts_before, texts_before, is_whole, path_moves}
+use Rattle.demangle_v0.specs.Attempts.{texts_for, is_whole_for}
 use Rattle.demangle_v0_grammar.proofs.ReferenceLaw.{unlimited_texts, unlimited_whole}
 use Rattle.rustc_demangle.specs.Shape.{LimitedForm, form, texts_within, is_all, marked_unless, path_texts}
 use Rattle.rustc_demangle.specs.Style.{style_pieces, style_texts, is_style_all}
@@ -48,25 +50,26 @@ pub kept_marked : (texts : List (List ℕ)) (all : Bool) (limit : ℕ) → kept 
 kept_marked texts true limit = omega arith
 kept_marked texts false limit = let more = fitting-more texts (marker ∷ []) limit in omega (arith, ap size more.1, size-append (prefix_within texts limit) more.0)
 
--- without a limit of references, a path prints all its texts
+-- without such a limit, a path prints all its texts
 pub unlimited_pieces : (symbol : List ℕ) (include_hash fold_arguments : Bool) → path_texts symbol (form include_hash fold_arguments) ≡ reading.path_texts symbol (reading.form include_hash fold_arguments)
 unlimited_pieces symbol include_hash fold_arguments =
     let f = reading.form include_hash fold_arguments in
     ap (λ (b : Bool). marked_unless b (path_texts_before None symbol f)) (unlimited_whole symbol f) ∙ unlimited_texts symbol f
 
--- the limit of references is that of the adapter
-pub up_to : {S : Type 0} (sink : Ghosts S) (old new : SizeLimitedFmtAdapter S) (symbol : List ℕ) (form : LimitedForm) (result : Result (Unit {0}) SinkRefused) → old.references ≡ form.references
-    → PrintsUpTo sink old (path_texts_before old.references symbol form.plain) (is_path_whole old.references symbol form.plain) result new → PrintsUpTo sink old (texts_within symbol form) (is_all symbol form) result new
-up_to sink old new symbol form result e p = subst (λ (k : Option ℕ). PrintsUpTo sink old (path_texts_before k symbol form.plain) (is_path_whole k symbol form.plain) result new) e p
+-- the limit is that of the adapter
+pub up_to : {S : Type 0} (sink : Ghosts S) (old new : SizeLimitedFmtAdapter S) (symbol : List ℕ) (form : LimitedForm) (result : Result (Unit {0}) SinkRefused) → old.reread ≡ unused form.reread
+    → PrintsUpTo sink old (texts_for old symbol form.plain) (is_whole_for old symbol form.plain) result new → PrintsUpTo sink old (texts_within symbol form) (is_all symbol form) result new
+up_to sink old new symbol form result e p =
+    subst (λ (k : Reread). PrintsUpTo sink old (texts_before k.most (length symbol) k.used (path_moves symbol form.plain)) (is_whole k.most (length symbol) k.used (path_moves symbol form.plain)) result new) e p
 
 pub up_to_all : {S : Type 0} (sink : Ghosts S) (old new : SizeLimitedFmtAdapter S) (xs : List (List ℕ)) (all : Bool) → PrintsUpTo sink old xs all (Ok tt) new → all ≡ true
 up_to_all sink old new xs true p = refl
 up_to_all sink old new xs false p = absurd (false≢true p.refused)
 
--- a legacy symbol follows no references
-pub few_legacy : (most : Option ℕ) (n old new : ℕ) → new ≤ old + 16 * (n + 1) → IfSome most (λ k. new ≤ old + 20 * (n + 1) * (k + 1))
+-- of a legacy symbol nothing is read again
+pub few_legacy : (most : Option ℕ) (n old new : ℕ) → new ≤ old + 16 * (n + 1) → IfSome most (λ k. new ≤ old + 20 * (n + 1 + k))
 few_legacy None n old new h = tt
 few_legacy (Some k) n old new h = omega (arith, h)
 
-pub few_looks : (most : Option ℕ) (k n old new : ℕ) → most ≡ Some k → IfSome most (λ j. new ≤ old + 20 * (n + 1) * (j + 1)) → new ≤ old + 20 * (n + 1) * (k + 1)
+pub few_looks : (most : Option ℕ) (k n old new : ℕ) → most ≡ Some k → IfSome most (λ j. new ≤ old + 20 * (n + 1 + j)) → new ≤ old + 20 * (n + 1 + k)
 few_looks most k n old new e h = rw e at h

@@ -482,6 +482,10 @@ pub passing_init : (f : ByteBefore → List ℕ → List ℕ) (held : Option (Li
 passing_init f None pending old none = tt
 passing_init f (Some text) pending old none = (text, refl, passed_none f (from_start text) _ old (ap (λ (h : Unwritten). followed_by h text) (sym none)))
 
+pub passing_known : (f : ByteBefore → List ℕ → List ℕ) (held : Option (List ℕ)) (pending : Unwritten) (left old new : Option (List ℕ)) → Passing f held pending left old new → IfSome held (λ _. (xs : List ℕ) × (left ≡ Some xs))
+passing_known f None pending left old new p = tt
+passing_known f (Some text) pending left old new p = (p.0, p.1)
+
 pub passing_step : (f : ByteBefore → List ℕ → List ℕ) (held : Option (List ℕ)) (pending next : Unwritten) (left rest old mid new : Option (List ℕ)) → Passing f held pending left old mid
     → StepFiltered (rewritten_by f zero) pending next left rest mid new → Passing f held next rest old new
 passing_step f None pending next left rest old mid new p took = tt

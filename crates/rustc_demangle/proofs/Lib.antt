@@ -19,3 +19,5 @@ pub mod SymbolLemmas
 pub mod TextRows
 pub mod MemoLemmas
 pub mod AllReferences
+pub mod LinearLooks
+pub mod OutputLaws

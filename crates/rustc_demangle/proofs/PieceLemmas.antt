@@ -9,7 +9,7 @@ use Rattle.demangle_sink.specs.declared.SinkRefused.{SinkRefused}
 use Rattle.demangle_sink.specs.PutsPieces.{PutsPieces}
 use Rattle.demangle_sink.proofs.PutsPiecesLemmas.{puts_nothing, puts_then, puts_stop}
 use Rattle.rustc_demangle.specs.Stripped.{stripped}
-use Rattle.rustc_demangle.specs.Symbols.{IsSymbol, form_of, pieces_in, handed_in, unfolded}
+use Rattle.rustc_demangle.specs.Symbols.{IsSymbol, form_in, pieces_in, handed_in, unfolded}
 use Rattle.rustc_demangle.specs.declared.format.Format.{Format}
 use Rattle.rustc_demangle.specs.Lines.{onto_first}
 use Rattle.rustc_demangle.specs.Filtered.{by_runs, is_run_byte, starts_run, replacement_in, filtered_by, filtered_in, filtered_within}
@@ -68,19 +68,19 @@ pieces_all format (c ∷ s) none =
 -- the pieces of a run that is a symbol are those of the symbol
 pub run_pieces-symbol : (format : Format) (run : List ℕ) → IsSymbol (stripped run) → handed_in (stripped run) format ≡ run_pieces format run
 run_pieces-symbol format run symbol =
-    sym (ap (λ read. option_map_or (λ (_ : List (List ℕ) × List ℕ). handed_in (stripped run) format) read (run ∷ [])) (pieces-symbol (form_of format) (stripped run) symbol).1)
+    sym (ap (λ read. option_map_or (λ (_ : List (List ℕ) × List ℕ). handed_in (stripped run) format) read (run ∷ [])) (pieces-symbol (form_in format (stripped run)) (stripped run) symbol).1)
 
 -- any other run is its own piece
 pub run_pieces-no_symbol : (format : Format) (run : List ℕ) → (IsSymbol (stripped run) → ⊥) → run ∷ [] ≡ run_pieces format run
-run_pieces-no_symbol format run none = at (pieces_in (form_of format) (stripped run)) refl
+run_pieces-no_symbol format run none = at (pieces_in (form_in format (stripped run)) (stripped run)) refl
   where
-    at : (read : Option (List (List ℕ) × List ℕ)) → pieces_in (form_of format) (stripped run) ≡ read → run ∷ [] ≡ option_map_or (λ _. handed_in (stripped run) format) read (run ∷ [])
+    at : (read : Option (List (List ℕ) × List ℕ)) → pieces_in (form_in format (stripped run)) (stripped run) ≡ read → run ∷ [] ≡ option_map_or (λ _. handed_in (stripped run) format) read (run ∷ [])
     at None e = refl
-    at (Some read) e = absurd (none (symbol-pieces (form_of format) (stripped run) read e))
+    at (Some read) e = absurd (none (symbol-pieces (form_in format (stripped run)) (stripped run) read e))
 
 -- the replacement of a run is its pieces, joined
 pub concat-run : (format : Format) (run : List ℕ) → concat (run_pieces format run) ≡ replacement_in format run
-concat-run format run = at (pieces_in (form_of format) (stripped run))
+concat-run format run = at (pieces_in (form_in format (stripped run)) (stripped run))
   where
     at : (read : Option (List (List ℕ) × List ℕ)) → concat (option_map_or (λ _. handed_in (stripped run) format) read (run ∷ [])) ≡ option_map_or (λ _. concat (handed_in (stripped run) format)) read run
     at None = append-nil run

@@ -8,7 +8,7 @@ use Rattle.demangle_sink.specs.Cut.{size, prefix_within, cut, kept, marker}
 use Rattle.rustc_demangle.specs.Hashes.{OmitsHash, pieces_after}
 use Rattle.demangle_legacy.specs.Legacy.{IsLegacy, legacy_of}
 use Rattle.rustc_demangle.specs.Stripped.{is_allowed}
-use Rattle.rustc_demangle.specs.Symbols.{IsSymbol, form_of, pieces_in, handed_in, kept_in, unfolded, handed}
+use Rattle.rustc_demangle.specs.Symbols.{IsSymbol, form_in, limit_in, pieces_in, handed_in, kept_in, unfolded, handed}
 use Rattle.rustc_demangle.specs.declared.format.Format.{Format}
 use Rattle.rustc_demangle.specs.Shape.{form, legacy_pieces}
 use Rattle.demangle_legacy.specs.Unescaped.{unescaped, is_hash, printed_elements, joined_pieces, following_pieces}
@@ -17,20 +17,20 @@ use Rattle.demangle_sink.proofs.PrintsLemmas.{cut-within, cut-past}
 use Rattle.demangle_legacy.proofs.LegacyLaws.{legacy_spelled}
 use Rattle.rustc_demangle.proofs.SymbolLemmas.{symbol-pieces, pieces-legacy}
 
-pub handed-some_of : (text : List ℕ) (format : Format) (read : List (List ℕ) × List ℕ) → pieces_in (form_of format) text ≡ Some read → handed_in text format ≡ cut read.0 format.limit ++ read.1 ∷ []
-handed-some_of text format read e = ap (λ o. option_map_or (λ (r : List (List ℕ) × List ℕ). cut r.0 format.limit ++ r.1 ∷ []) o (text ∷ [])) e
+pub handed-some_of : (text : List ℕ) (format : Format) (read : List (List ℕ) × List ℕ) → pieces_in (form_in format text) text ≡ Some read → handed_in text format ≡ cut read.0 (limit_in format text) ++ read.1 ∷ []
+handed-some_of text format read e = ap (λ o. option_map_or (λ (r : List (List ℕ) × List ℕ). cut r.0 (limit_in format text) ++ r.1 ∷ []) o (text ∷ [])) e
 
 pub handed-no_symbol : (text : List ℕ) → (IsSymbol text → ⊥) → (format : Format) → handed_in text format ≡ text ∷ []
-handed-no_symbol text none format = go (pieces_in (form_of format) text) refl where
-  go : (read : Option (List (List ℕ) × List ℕ)) → pieces_in (form_of format) text ≡ read → option_map_or (λ r. cut r.0 format.limit ++ r.1 ∷ []) read (text ∷ []) ≡ text ∷ []
+handed-no_symbol text none format = go (pieces_in (form_in format text) text) refl where
+  go : (read : Option (List (List ℕ) × List ℕ)) → pieces_in (form_in format text) text ≡ read → option_map_or (λ r. cut r.0 (limit_in format text) ++ r.1 ∷ []) read (text ∷ []) ≡ text ∷ []
   go None e = refl
-  go (Some read) e = absurd (none (symbol-pieces (form_of format) text read e))
+  go (Some read) e = absurd (none (symbol-pieces (form_in format text) text read e))
 
 pub kept-no_symbol : (text : List ℕ) → (IsSymbol text → ⊥) → (format : Format) → kept_in text format ≡ 0
-kept-no_symbol text none format = go (pieces_in (form_of format) text) refl where
-  go : (read : Option (List (List ℕ) × List ℕ)) → pieces_in (form_of format) text ≡ read → option_map_or (λ r. kept r.0 format.limit) read 0 ≡ 0
+kept-no_symbol text none format = go (pieces_in (form_in format text) text) refl where
+  go : (read : Option (List (List ℕ) × List ℕ)) → pieces_in (form_in format text) text ≡ read → option_map_or (λ r. kept r.0 (limit_in format text)) read 0 ≡ 0
   go None e = refl
-  go (Some read) e = absurd (none (symbol-pieces (form_of format) text read e))
+  go (Some read) e = absurd (none (symbol-pieces (form_in format text) text read e))
 
 -- cut pieces have at most the bytes of the limit and of the marker
 pub size-cut : (pieces : List (List ℕ)) (limit : ℕ) → size (cut pieces limit) ≤ limit + 20
@@ -39,10 +39,10 @@ size-cut pieces limit = elim (leb_tells (size pieces) limit) [
   | inr e ↦ omega (arith, ap size (cut-past pieces limit e.1), size-append (prefix_within pieces limit) (marker ∷ []), fitting-within pieces limit)
 ]
 
-pub size-handed : (text : List ℕ) (format : Format) (pieces : List (List ℕ)) (suffix : List ℕ) → pieces_in (form_of format) text ≡ Some (pieces, suffix)
-    → size (handed_in text format) ≤ format.limit + 20 + length suffix
+pub size-handed : (text : List ℕ) (format : Format) (pieces : List (List ℕ)) (suffix : List ℕ) → pieces_in (form_in format text) text ≡ Some (pieces, suffix)
+    → size (handed_in text format) ≤ (limit_in format text) + 20 + length suffix
 size-handed text format pieces suffix e =
-    omega (arith, ap size (handed-some_of text format (pieces, suffix) e), size-append (cut pieces format.limit) (suffix ∷ []), size-cut pieces format.limit)
+    omega (arith, ap size (handed-some_of text format (pieces, suffix) e), size-append (cut pieces (limit_in format text)) (suffix ∷ []), size-cut pieces (limit_in format text))
 
 -- with the hash, all elements are printed
 printed-all : (elements : List (List ℕ)) → printed_elements true elements ≡ elements

@@ -8,7 +8,8 @@ use Rattle.std.proofs.lemmas.Slice.Eq.{starts_is}
 use Rattle.std.proofs.lemmas.Str.{IsCharBoundary-after_ascii}
 use Rattle.std.proofs.lemmas.List.Sums.{prefix_len_passes, prefix_len-le-length}
 use Rattle.rustc_demangle.specs.Stripped.{stripped}
-use Rattle.rustc_demangle.specs.Symbols.{IsSymbol, form_of, pieces_in, handed_in, unfolded, printed, most_bytes}
+use Rattle.rustc_demangle.specs.Limits.{most_bytes}
+use Rattle.rustc_demangle.specs.Symbols.{IsSymbol, form_in, pieces_in, handed_in, unfolded, printed}
 use Rattle.rustc_demangle.specs.declared.format.Format.{Format}
 use Rattle.rustc_demangle.proofs.SymbolLemmas.{pieces-symbol, symbol-pieces}
 use Rattle.rustc_demangle.specs.Filtered.{by_runs, is_run_byte, starts_run, filtered_by, replacement_in, replacement}
@@ -86,18 +87,18 @@ filtered_all f (c ∷ s) none =
 -- a run that is a symbol is replaced by the text that the symbol prints
 pub replacement_in-symbol : (format : Format) (run : List ℕ) → IsSymbol (stripped run) → replacement_in format run ≡ concat (handed_in (stripped run) format)
 replacement_in-symbol format run symbol =
-    ap (λ read. option_map_or (λ (_ : List (List ℕ) × List ℕ). concat (handed_in (stripped run) format)) read run) (pieces-symbol (form_of format) (stripped run) symbol).1
+    ap (λ read. option_map_or (λ (_ : List (List ℕ) × List ℕ). concat (handed_in (stripped run) format)) read run) (pieces-symbol (form_in format (stripped run)) (stripped run) symbol).1
 
 pub replacement-symbol : (h : Bool) (run : List ℕ) → IsSymbol (stripped run) → replacement h run ≡ printed (stripped run) h
 replacement-symbol h run symbol = replacement_in-symbol (unfolded h most_bytes) run symbol
 
 -- a run that is not a symbol is unchanged
 pub replacement_in-no_symbol : (format : Format) (run : List ℕ) → (IsSymbol (stripped run) → ⊥) → replacement_in format run ≡ run
-replacement_in-no_symbol format run none = at (pieces_in (form_of format) (stripped run)) refl
+replacement_in-no_symbol format run none = at (pieces_in (form_in format (stripped run)) (stripped run)) refl
   where
-    at : (read : Option (List (List ℕ) × List ℕ)) → pieces_in (form_of format) (stripped run) ≡ read → option_map_or (λ _. concat (handed_in (stripped run) format)) read run ≡ run
+    at : (read : Option (List (List ℕ) × List ℕ)) → pieces_in (form_in format (stripped run)) (stripped run) ≡ read → option_map_or (λ _. concat (handed_in (stripped run) format)) read run ≡ run
     at None e = refl
-    at (Some read) e = absurd (none (symbol-pieces (form_of format) (stripped run) read e))
+    at (Some read) e = absurd (none (symbol-pieces (form_in format (stripped run)) (stripped run) read e))
 
 pub replacement-no_symbol : (h : Bool) (run : List ℕ) → (IsSymbol (stripped run) → ⊥) → replacement h run ≡ run
 replacement-no_symbol h run none = replacement_in-no_symbol (unfolded h most_bytes) run none

@@ -10,7 +10,7 @@ use Rattle.demangle_sink.specs.Cut.{size}
 use Rattle.demangle_legacy.specs.Legacy.{IsLegacyPrefix}
 use Rattle.rustc_demangle.specs.Shape.{path_texts, legacy_pieces}
 use Rattle.rustc_demangle.specs.Stripped.{stripped, is_thin_lto}
-use Rattle.rustc_demangle.specs.Symbols.{IsSymbol, form_of, handed_in, handed, unfolded}
+use Rattle.rustc_demangle.specs.Symbols.{IsSymbol, form_in, limit_in, handed_in, handed, unfolded}
 use Rattle.rustc_demangle.specs.declared.format.Format.{Format}
 use Rattle.demangle_v0_grammar.specs.V0.{IsV0Prefix}
 use Rattle.demangle_legacy.proofs.LegacyLaws.{legacy_spelled}
@@ -78,15 +78,15 @@ pub length-concat : (pieces : List (List ℕ)) → length (concat pieces) ≡ si
 length-concat [] = refl
 length-concat (piece ∷ pieces) = omega (arith, length-append piece (concat pieces), length-concat pieces)
 
-pub size_symbol_in : (text : List ℕ) (format : Format) → IsSymbol text → size (handed_in text format) ≤ format.limit + 20 + length text
+pub size_symbol_in : (text : List ℕ) (format : Format) → IsSymbol text → size (handed_in text format) ≤ (limit_in format text) + 20 + length text
 size_symbol_in text format (inl (elements, suffix, legacy, allowed)) =
     let read = legacy_spelled text elements suffix legacy in
-    omega (arith, size-handed text format (legacy_pieces (form_of format) elements) suffix (pieces-legacy (form_of format) text elements suffix read allowed), suffix-shorter text elements suffix read)
+    omega (arith, size-handed text format (legacy_pieces (form_in format text) elements) suffix (pieces-legacy (form_in format text) text elements suffix read allowed), suffix-shorter text elements suffix read)
 size_symbol_in text format (inr (inner, suffix, v0, allowed)) =
     let read = v0_is_read text inner suffix v0 in
-    omega (arith, size-handed text format (path_texts inner (form_of format)) suffix (pieces-v0 (form_of format) text inner suffix read allowed), v0_suffix-shorter text inner suffix read)
+    omega (arith, size-handed text format (path_texts inner (form_in format text)) suffix (pieces-v0 (form_in format text) text inner suffix read allowed), v0_suffix-shorter text inner suffix read)
 
-pub length_handed_in : (text : List ℕ) (format : Format) → IsSymbol text → length (concat (handed_in text format)) ≤ format.limit + 20 + length text
+pub length_handed_in : (text : List ℕ) (format : Format) → IsSymbol text → length (concat (handed_in text format)) ≤ (limit_in format text) + 20 + length text
 length_handed_in text format is = omega (arith, length-concat (handed_in text format), size_symbol_in text format is)
 
 -- the same with or without the hash, and with generic arguments

@@ -6,11 +6,12 @@ use Rattle.std.proofs.lemmas.Nat.{mul-le}
 use Rattle.std.proofs.lemmas.Bool.{true≢false}
 use Rattle.demangle_sink.specs.Cut.{cut, kept}
 use Rattle.demangle_legacy.specs.Legacy.{IsElements, inner_of, legacy_of, elements_of}
+use Rattle.rustc_demangle.specs.Limits.{text_format}
 use Rattle.rustc_demangle.specs.Stripped.{is_allowed}
 use Rattle.rustc_demangle.specs.Shape.{legacy_pieces, LimitedForm, form, is_all, texts_within, path_texts}
 use Rattle.demangle_v0_grammar.specs.Again.{path_again}
 use Rattle.demangle_v0_grammar.specs.V0.{IsV0, IsV0Prefix, v0_of}
-use Rattle.rustc_demangle.specs.Symbols.{IsLegacySymbol, IsV0Symbol, IsSymbol, form_of, kept_in, if_allowed, read_in, pieces_in, handed_in, again_in, PrintingLooksIn}
+use Rattle.rustc_demangle.specs.Symbols.{IsLegacySymbol, IsV0Symbol, IsSymbol, form_in, limit_in, kept_in, if_allowed, read_in, pieces_in, handed_in, again_in, PrintingLooksIn}
 use Rattle.rustc_demangle.specs.declared.format.Format.{Format}
 use Rattle.rustc_demangle.specs.Style.{style_pieces, style_len, style_looks, style_looks_again, style_least, IsReadAs, HasNoStyle, HasStyle, IsStyled}
 use Rattle.rustc_demangle.specs.declared.value.DemangleStyle.{DemangleStyle}
@@ -109,37 +110,37 @@ styled-pieces form text (V0 symbol) suffix has = pieces-v0 form text symbol suff
 
 -- a symbol prints its pieces within the limit, and its suffix
 pub handed-some : (text : List ℕ) (format : Format) (style : DemangleStyle) (suffix : List ℕ) → HasStyle text style suffix
-    → handed_in text format ≡ cut (style_pieces (form_of format) style) format.limit ++ suffix ∷ []
+    → handed_in text format ≡ cut (style_pieces (form_in format text) style) (limit_in format text) ++ suffix ∷ []
 handed-some text format style suffix has =
-    ap (λ read. option_map_or (λ (r : List (List ℕ) × List ℕ). cut r.0 format.limit ++ r.1 ∷ []) read (text ∷ [])) (styled-pieces (form_of format) text style suffix has)
+    ap (λ read. option_map_or (λ (r : List (List ℕ) × List ℕ). cut r.0 (limit_in format text) ++ r.1 ∷ []) read (text ∷ [])) (styled-pieces (form_in format text) text style suffix has)
 
 pub kept_in-some : (text : List ℕ) (format : Format) (style : DemangleStyle) (suffix : List ℕ) → HasStyle text style suffix
-    → kept_in text format ≡ kept (style_pieces (form_of format) style) format.limit
+    → kept_in text format ≡ kept (style_pieces (form_in format text) style) (limit_in format text)
 kept_in-some text format style suffix has =
-    ap (λ read. option_map_or (λ (r : List (List ℕ) × List ℕ). kept r.0 format.limit) read 0) (styled-pieces (form_of format) text style suffix has)
+    ap (λ read. option_map_or (λ (r : List (List ℕ) × List ℕ). kept r.0 (limit_in format text)) read 0) (styled-pieces (form_in format text) text style suffix has)
 
 -- the looks of printing a text with this style
 style_looks-most : (text : List ℕ) (format : Format) (style : DemangleStyle) (suffix : List ℕ) → HasStyle text style suffix
-    → style_looks (form_of format) format.limit style ≤ 100000 * (kept_in text format + 1) * (length text + 1)
+    → style_looks (form_in format text) (limit_in format text) style ≤ 100000 * (kept_in text format + 1) * (length text + 1)
 style_looks-most text format (Legacy symbol) suffix has =
     let inner : length symbol ≤ length text = has.inner in
     mul-le 16 (length symbol + 1) (100000 * (kept_in text format + 1)) (length text + 1) (omega arith) (omega arith)
 style_looks-most text format (V0 symbol) suffix has =
     let inner : length symbol ≤ length text = has.inner in
     let same = kept_in-some text format (V0 symbol) suffix has in
-    let marked : kept (texts_within symbol (form_of format)) format.limit ≤ kept (path_texts symbol (form_of format)) format.limit = kept_marked (texts_within symbol (form_of format)) (is_all symbol (form_of format)) format.limit in
-    mul-le (100000 * (kept (texts_within symbol (form_of format)) format.limit + 1)) (length symbol + 1) (100000 * (kept_in text format + 1)) (length text + 1) (omega (arith, same, marked)) (omega arith)
+    let marked : kept (texts_within symbol (form_in format text)) (limit_in format text) ≤ kept (path_texts symbol (form_in format text)) (limit_in format text) = kept_marked (texts_within symbol (form_in format text)) (is_all symbol (form_in format text)) (limit_in format text) in
+    mul-le (100000 * (kept (texts_within symbol (form_in format text)) (limit_in format text) + 1)) (length symbol + 1) (100000 * (kept_in text format + 1)) (length text + 1) (omega (arith, same, marked)) (omega arith)
 
 style_looks_again-most : (text : List ℕ) (format : Format) (style : DemangleStyle) (suffix : List ℕ) → HasStyle text style suffix
-    → style_looks_again (form_of format) style ≤ 17 * (length text + 1 + again_in text format)
+    → style_looks_again (form_in format text) style ≤ 17 * (length text + 1 + again_in text format)
 style_looks_again-most text format (Legacy symbol) suffix has = let inner : length symbol ≤ length text = has.inner in omega arith
 style_looks_again-most text format (V0 symbol) suffix has =
     let inner : length symbol ≤ length text = has.inner in
-    let same : again_in text format ≡ path_again symbol (form_of format).plain = ap (λ read. option_map_or (λ (r : List ℕ × List ℕ). path_again r.0 (form_of format).plain) read 0) has.read in
+    let same : again_in text format ≡ path_again symbol format.form = ap (λ read. option_map_or (λ (r : List ℕ × List ℕ). path_again r.0 format.form) read 0) has.read in
     omega arith
 
 style_looks-legacy : (text : List ℕ) (format : Format) (style : DemangleStyle) (suffix : List ℕ) → HasStyle text style suffix → IsLegacySymbol text
-    → style_looks (form_of format) format.limit style ≤ 16 * (length text + 1)
+    → style_looks (form_in format text) (limit_in format text) style ≤ 16 * (length text + 1)
 style_looks-legacy text format (Legacy symbol) suffix has is = let inner : length symbol ≤ length text = has.inner in omega arith
 style_looks-legacy text format (V0 symbol) suffix has is = absurd (none≢some (sym (no_legacy text symbol suffix (read_is_v0 text symbol suffix has.read)) ∙ legacy_spelled text is.0 is.1 is.2))
 
@@ -155,17 +156,15 @@ no_symbol_unstyled text none symbol = let some = pieces-symbol (form true false)
 
 -- the looks of printing a text with this style, and one without a style
 pub styled_looks : (text : List ℕ) (format : Format) (style : DemangleStyle) (suffix : List ℕ) (old new : ℕ) → HasStyle text style suffix
-    → old ≤ new → new ≤ old + style_looks (form_of format) format.limit style → new ≤ old + style_looks_again (form_of format) style
-    → IfSome format.references (λ k. new ≤ old + 20 * (style_len style + 1) * (k + 1)) → old + style_least style ≤ new → PrintingLooksIn text format old new
+    → old ≤ new → new ≤ old + style_looks (form_in format text) (limit_in format text) style → new ≤ old + style_looks_again (form_in format text) style
+    → IfSome (text_format format (length text)).reread (λ k. new ≤ old + 20 * (style_len style + 1 + k)) → old + style_least style ≤ new → PrintingLooksIn text format old new
 styled_looks text format style suffix old new has grows most again few least = record {
   grows = grows;
   most = omega (arith, most, style_looks-most text format style suffix has);
   again = omega (arith, again, style_looks_again-most text format style suffix has);
   few = λ k e.
-      let w : new ≤ old + 20 * (style_len style + 1) * (k + 1) = few_looks format.references k (style_len style) old new e few in
-      let inner : style_len style ≤ length text = has.inner in
-      let more = mul-le (20 * (style_len style + 1)) (k + 1) (20 * (length text + 1)) (k + 1) (omega (arith, inner)) (omega arith) in
-      omega (arith, w, more);
+      let w : new ≤ old + 20 * (style_len style + 1 + k) = few_looks (text_format format (length text)).reread k (style_len style) old new e few in
+      omega (arith, w, has.inner);
   legacy = λ legacy. omega (arith, most, style_looks-legacy text format style suffix has legacy);
   v0 = λ v0. omega (arith, least, style_least-v0 text style suffix has v0);
   no_symbol = λ none. absurd (none (symbol_styled text style suffix has));

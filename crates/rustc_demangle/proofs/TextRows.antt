@@ -8,7 +8,8 @@ use Rattle.rustc_demangle.specs.Filtered.{by_runs, filtered}
 use Rattle.demangle_legacy.specs.Legacy.{inner_of, element_of, parts_within, parts_of, legacy_of}
 use Rattle.rustc_demangle.specs.Lines.{lines}
 use Rattle.rustc_demangle.specs.Stripped.{stripped, is_allowed}
-use Rattle.rustc_demangle.specs.Symbols.{handed, most_bytes}
+use Rattle.rustc_demangle.specs.Limits.{most_bytes}
+use Rattle.rustc_demangle.specs.Symbols.{handed}
 use Rattle.demangle_legacy.specs.Unescaped.{escape_of_digits, escape_of, leading_unit, pieces_from, unescaped, printed_elements}
 use Rattle.demangle_v0_grammar.specs.V0.{v0_in, v0_of}
 

@@ -4,7 +4,8 @@ use Rattle.std.specs.List.{starts_with, prefix_len, take_while, list_all, concat
 use Rattle.std.specs.Option.{option_map_or}
 use Rattle.std.specs.Char.{is_ascii_alphanumeric}
 use Rattle.rustc_demangle.specs.Stripped.{stripped}
-use Rattle.rustc_demangle.specs.Symbols.{IsSymbol, pieces_in, form_of, handed_in, unfolded, printed, most_bytes}
+use Rattle.rustc_demangle.specs.Limits.{most_bytes}
+use Rattle.rustc_demangle.specs.Symbols.{IsSymbol, pieces_in, form_in, handed_in, unfolded}
 use Rattle.rustc_demangle.specs.declared.format.Format.{Format}
 
 -- A run is a candidate symbol: the longest sequence of run bytes that starts with `_ZN` or `_R`. A run byte is `$`,
@@ -31,21 +32,21 @@ pub record IsRun (run following : List ℕ) : Type 0 where
   pub all : list_all is_run_byte run ≡ true
   pub longest : StartsOutsideRun following
 
--- `text` replaces a run: it is the printed symbol if the run is a symbol, and the run itself otherwise
-abbrev pub IsReplacement : Bool → List ℕ → List ℕ → Type 0
-IsReplacement hash run text = (IsSymbol (stripped run) × (text ≡ printed (stripped run) hash)) ⊎ ((IsSymbol (stripped run) → ⊥) × (text ≡ run))
+-- `text` replaces a run: it is the symbol printed in a format if the run is a symbol, and the run itself otherwise
+abbrev pub IsReplacement : Format → List ℕ → List ℕ → Type 0
+IsReplacement format run text = (IsSymbol (stripped run) × (text ≡ concat (handed_in (stripped run) format))) ⊎ ((IsSymbol (stripped run) → ⊥) × (text ≡ run))
 
 -- The line is a sequence of runs, each with the plain text up to the next run. `out` is the line with each run
 -- replaced.
-abbrev pub AreReplaced : Bool → List (List ℕ × List ℕ) → List ℕ → List ℕ → Type 0
-AreReplaced hash [] line out = (line ≡ []) × (out ≡ [])
-AreReplaced hash ((run, kept) ∷ parts) line out =
+abbrev pub AreReplaced : Format → List (List ℕ × List ℕ) → List ℕ → List ℕ → Type 0
+AreReplaced format [] line out = (line ≡ []) × (out ≡ [])
+AreReplaced format ((run, kept) ∷ parts) line out =
     (rest : List ℕ) × (text : List ℕ) × (rest_out : List ℕ)
     × (line ≡ run ++ (kept ++ rest)) × (out ≡ text ++ (kept ++ rest_out))
-    × IsRun run (kept ++ rest) × IsReplacement hash run text × HasNoStart kept × AreReplaced hash parts rest rest_out
+    × IsRun run (kept ++ rest) × IsReplacement format run text × HasNoStart kept × AreReplaced format parts rest rest_out
 
 -- The line is plain text followed by such a sequence. `out` keeps the plain text and replaces the runs.
-pub record IsFiltered (hash : Bool) (line out : List ℕ) : Type 0 where
+pub record IsFiltered (format : Format) (line out : List ℕ) : Type 0 where
   pub kept : List ℕ
   pub rest : List ℕ
   pub rest_out : List ℕ
@@ -53,11 +54,11 @@ pub record IsFiltered (hash : Bool) (line out : List ℕ) : Type 0 where
   pub whole : line ≡ kept ++ rest
   pub output : out ≡ kept ++ rest_out
   pub no_start : HasNoStart kept
-  pub runs : AreReplaced hash parts rest rest_out
+  pub runs : AreReplaced format parts rest rest_out
 
 -- the replacement of a run as a function, in a format
 abbrev pub replacement_in : Format → List ℕ → List ℕ
-replacement_in format run = option_map_or (λ _. concat (handed_in (stripped run) format)) (pieces_in (form_of format) (stripped run)) run
+replacement_in format run = option_map_or (λ _. concat (handed_in (stripped run) format)) (pieces_in (form_in format (stripped run)) (stripped run)) run
 
 -- the same with generic arguments, and with a size limit for each symbol
 abbrev pub replacement_within : Bool → ℕ → List ℕ → List ℕ
@@ -81,7 +82,7 @@ by_runs run plain empty zero (c ∷ s) = elim (starts_run (c ∷ s)) [
 abbrev pub filtered_by : (List ℕ → List ℕ) → ℕ → List ℕ → List ℕ
 filtered_by replaced = by_runs (λ run rest. replaced run ++ rest) (λ c rest. c ∷ rest) []
 
--- any bytes with each run replaced, in a format
+-- any bytes with each run replaced, in a format; the only `out` for which `IsFiltered format line out` holds
 abbrev pub filtered_in : Format → List ℕ → List ℕ
 filtered_in format = filtered_by (replacement_in format) zero
 
@@ -89,6 +90,6 @@ filtered_in format = filtered_by (replacement_in format) zero
 abbrev pub filtered_within : Bool → ℕ → List ℕ → List ℕ
 filtered_within hash limit = filtered_in (unfolded hash limit)
 
--- the only `out` for which `IsFiltered hash line out` holds
+-- `filtered_within` with the default limit
 abbrev pub filtered : Bool → List ℕ → List ℕ
 filtered hash = filtered_within hash most_bytes

@@ -1,5 +1,6 @@
 -- The definitions that a reader of the public contracts has to believe, in reading order.
 pub mod Stripped
+pub mod Limits
 pub mod Shape
 pub mod Symbols
 pub mod PathEnds
@@ -10,6 +11,7 @@ pub mod TextPieces
 pub mod Rewritten
 pub mod LineStream
 pub mod ByteStream
+pub mod LinearLooks
 -- and of demangle_sink
 pub use Rattle.demangle_sink.specs.Sink
 pub use Rattle.demangle_sink.specs.Cut

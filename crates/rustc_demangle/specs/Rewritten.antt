@@ -3,7 +3,7 @@ use Rattle.std.specs.Prelude.{◌≡◌, ◌⊎◌, ◌+◌, ℕ, zero, suc, len
 use Rattle.std.specs.List.{prefix_len, take_while}
 use Rattle.std.specs.Char.{is_ascii_alphanumeric}
 use Rattle.rustc_demangle.specs.Filtered.{is_run_byte, starts_run, HasNoStart, IsRun, IsReplacement, replacement_in}
-use Rattle.rustc_demangle.specs.Symbols.{unfolded, most_bytes}
+use Rattle.rustc_demangle.specs.Symbols.{bounded_within, linear}
 use Rattle.rustc_demangle.specs.declared.format.Format.{Format}
 use Rattle.rustc_demangle.specs.declared.byte_before.ByteBefore.{ByteBefore}
 use Rattle.rustc_demangle.specs.declared.byte_before.ByteBefore.TheVariants.{Outside, Alphanumeric, Mark}
@@ -53,11 +53,11 @@ rewritten_in format = rewritten_after format Outside
 
 -- the same with generic arguments, and with a size limit for each symbol
 abbrev pub rewritten_within : Bool → ℕ → List ℕ → List ℕ
-rewritten_within hash limit = rewritten_in (unfolded hash limit)
+rewritten_within hash limit = rewritten_in (bounded_within hash limit)
 
--- `rewritten_within` with the default limit
+-- the same with limits that are linear in the length of each symbol
 abbrev pub rewritten : Bool → List ℕ → List ℕ
-rewritten hash = rewritten_within hash most_bytes
+rewritten hash = rewritten_in (linear hash)
 
 -- the text ends with a `_` that a run after it takes in
 abbrev pub EndsSingle : ByteBefore → List ℕ → Type 0
@@ -77,21 +77,21 @@ EndsOutside before = (before ≡ []) ⊎ ((s : List ℕ) × (c : ℕ) × (before
 
 -- `kept ++ text` takes the place of plain text and the run after it. After a letter or digit, nothing changes. After a
 -- single `_`, a symbol with it is replaced. Otherwise the run is replaced as in `IsFiltered`.
-abbrev pub IsReplacementAfter : Bool → List ℕ → List ℕ → List ℕ → List ℕ → Type 0
-IsReplacementAfter hash plain run kept text =
+abbrev pub IsReplacementAfter : Format → List ℕ → List ℕ → List ℕ → List ℕ → Type 0
+IsReplacementAfter format plain run kept text =
     (EndsAlphanumeric plain × (kept ≡ plain) × (text ≡ run))
-    ⊎ ((plain ≡ kept ++ codes "_") × EndsOutside kept × IsReplacement hash (codes "_" ++ run) text)
-    ⊎ ((EndsAlphanumeric plain → ⊥) × ((s : List ℕ) → plain ≡ s ++ codes "_" → EndsOutside s → ⊥) × (kept ≡ plain) × IsReplacement hash run text)
+    ⊎ ((plain ≡ kept ++ codes "_") × EndsOutside kept × IsReplacement format (codes "_" ++ run) text)
+    ⊎ ((EndsAlphanumeric plain → ⊥) × ((s : List ℕ) → plain ≡ s ++ codes "_" → EndsOutside s → ⊥) × (kept ≡ plain) × IsReplacement format run text)
 
 -- The text is a sequence of runs, each with the plain text before it, and plain text after the last one. `out` is the
 -- text with each run replaced.
-abbrev pub AreRewritten : Bool → List (List ℕ × List ℕ) → List ℕ → List ℕ → Type 0
-AreRewritten hash [] text out = HasNoStart text × (out ≡ text)
-AreRewritten hash ((plain, run) ∷ parts) text out =
+abbrev pub AreRewritten : Format → List (List ℕ × List ℕ) → List ℕ → List ℕ → Type 0
+AreRewritten format [] text out = HasNoStart text × (out ≡ text)
+AreRewritten format ((plain, run) ∷ parts) text out =
     (rest : List ℕ) × (kept : List ℕ) × (replaced : List ℕ) × (rest_out : List ℕ)
     × (text ≡ plain ++ (run ++ rest)) × (out ≡ kept ++ (replaced ++ rest_out))
-    × HasNoStart plain × IsRun run rest × IsReplacementAfter hash plain run kept replaced × AreRewritten hash parts rest rest_out
+    × HasNoStart plain × IsRun run rest × IsReplacementAfter format plain run kept replaced × AreRewritten format parts rest rest_out
 
 -- there is such a division
-abbrev pub IsRewritten : Bool → List ℕ → List ℕ → Type 0
-IsRewritten hash text out = (parts : List (List ℕ × List ℕ)) × AreRewritten hash parts text out
+abbrev pub IsRewritten : Format → List ℕ → List ℕ → Type 0
+IsRewritten format text out = (parts : List (List ℕ × List ℕ)) × AreRewritten format parts text out

@@ -16,7 +16,7 @@ abbrev pub style_pieces : LimitedForm → DemangleStyle → List (List ℕ)
 style_pieces form (Legacy symbol) = legacy_pieces form (elements_of symbol)
 style_pieces form (V0 symbol) = path_texts symbol form
 
--- the texts of a symbol of this style up to the limit of references, and whether they are all
+-- the texts of a symbol of this style up to the limit of the bytes that are read again, and whether they are all
 abbrev pub style_texts : LimitedForm → DemangleStyle → List (List ℕ)
 style_texts form (Legacy symbol) = legacy_pieces form (elements_of symbol)
 style_texts form (V0 symbol) = texts_within symbol form

@@ -6,9 +6,13 @@ use Rattle.demangle_sink.specs.Cut.{cut, kept}
 use Rattle.demangle_legacy.specs.Legacy.{IsLegacy, legacy_of}
 use Rattle.demangle_v0_grammar.specs.Again.{path_again}
 use Rattle.demangle_v0_grammar.specs.Reading as reading
-use Rattle.rustc_demangle.specs.Shape.{LimitedForm, form, path_texts, legacy_pieces}
+use Rattle.rustc_demangle.specs.Shape.{LimitedForm, form, limited, path_texts, legacy_pieces}
+use Rattle.rustc_demangle.specs.Limits.{most_bytes, text_format}
 use Rattle.rustc_demangle.specs.Stripped.{is_allowed}
 use Rattle.rustc_demangle.specs.declared.format.Format.{Format}
+use Rattle.rustc_demangle.specs.declared.format.SizeLimit.{SizeLimit}
+use Rattle.rustc_demangle.specs.declared.format.SizeLimit.TheVariants as size
+use Rattle.rustc_demangle.specs.declared.format.RereadLimit.TheVariants as reread
 use Rattle.demangle_v0_grammar.specs.V0.{IsV0, v0_of}
 
 -- the text is spelled by the grammar of the legacy scheme, up to an allowed suffix
@@ -38,29 +42,44 @@ read_in form text = option_or (option_map (λ read. (legacy_pieces form read.0, 
 abbrev pub pieces_in : LimitedForm → List ℕ → Option (List (List ℕ) × List ℕ)
 pieces_in form text = if_allowed (read_in form text)
 
--- the form of a format, which has a limit of bytes too
-abbrev pub form_of : Format → LimitedForm
-form_of format = record { plain = format.form; references = format.references }
+-- the form of a text with its limit of the bytes that are read again, in a format
+abbrev pub form_in : Format → List ℕ → LimitedForm
+form_in format text = limited (text_format format (length text))
+
+-- the most bytes of the path of a text, in a format
+abbrev pub limit_in : Format → List ℕ → ℕ
+limit_in format text = (text_format format (length text)).limit
 
 -- The pieces of a symbol within the limit, then the marker if some are left out, then the suffix. Any other text is
 -- one piece.
 abbrev pub handed_in : List ℕ → Format → List (List ℕ)
-handed_in text format = option_map_or (λ read. cut read.0 format.limit ++ read.1 ∷ []) (pieces_in (form_of format) text) (text ∷ [])
+handed_in text format = option_map_or (λ read. cut read.0 (limit_in format text) ++ read.1 ∷ []) (pieces_in (form_in format text) text) (text ∷ [])
 
--- the number of bytes that a symbol prints before the marker and the suffix
+-- the number of bytes that a symbol prints before the suffix, without the marker that follows the limit of bytes
 abbrev pub kept_in : List ℕ → Format → ℕ
-kept_in text format = option_map_or (λ read. kept read.0 format.limit) (pieces_in (form_of format) text) 0
+kept_in text format = option_map_or (λ read. kept read.0 (limit_in format text)) (pieces_in (form_in format text) text) 0
 
 -- how far reading goes back in all, while the path of a v0 symbol prints
 abbrev pub again_in : List ℕ → Format → ℕ
-again_in text format = option_map_or (λ read. path_again read.0 (form_of format).plain) (v0_of text) 0
+again_in text format = option_map_or (λ read. path_again read.0 format.form) (v0_of text) 0
 
--- the format with generic arguments, and the one with `_` for them
+-- the format with generic arguments and a limit of bytes, and the one with `_` for them
 abbrev pub unfolded : Bool → ℕ → Format
-unfolded hash limit = record { form = reading.form hash false; limit = limit; references = None }
+unfolded hash limit = record { form = reading.form hash false; limit = size.Bytes limit; reread = reread.Unlimited }
 
 abbrev pub folded : Bool → ℕ → Format
-folded hash limit = record { form = reading.form hash true; limit = limit; references = None }
+folded hash limit = record { form = reading.form hash true; limit = size.Bytes limit; reread = reread.Unlimited }
+
+-- the format in which texts are filtered: the bytes that are read again are limited
+abbrev pub bounded : reading.Form → SizeLimit → Format
+bounded form limit = record { form = form; limit = limit; reread = reread.Linear }
+
+-- the same with generic arguments, and with a limit of bytes or a linear one
+abbrev pub bounded_within : Bool → ℕ → Format
+bounded_within hash limit = bounded (reading.form hash false) (size.Bytes limit)
+
+abbrev pub linear : Bool → Format
+linear hash = bounded (reading.form hash false) size.Linear
 
 -- The same with or without the hash, and with generic arguments.
 
@@ -75,24 +94,20 @@ kept_of text hash limit = kept_in text (unfolded hash limit)
 
 -- The change of the look counter by printing a text, for Ok and for Err. Let `n` be the length of the text, and `w`
 -- the number of bytes that are kept. The counter never decreases. It increases by at most 100,000 x (w + 1) x
--- (n + 1), and by at most 17 for each of n + 1 bytes and of those over which reading goes back. With a limit of k
--- references it increases by at most 20 x (n + 1) x (k + 1), and for a legacy symbol by at most 16 x (n + 1). It
+-- (n + 1), and by at most 17 for each of n + 1 bytes and of those over which reading goes back. If k bytes
+-- may be read again, it increases by at most 20 x (n + 1 + k), and for a legacy symbol by at most 16 x (n + 1). It
 -- increases by at least 1 for a v0 symbol, and by nothing for a text that is not a symbol.
 pub record PrintingLooksIn (text : List ℕ) (format : Format) (old new : ℕ) : Type 0 where
   pub grows : old ≤ new
   pub most : new ≤ old + 100000 * (kept_in text format + 1) * (length text + 1)
   pub again : new ≤ old + 17 * (length text + 1 + again_in text format)
-  pub few : (k : ℕ) → format.references ≡ Some k → new ≤ old + 20 * (length text + 1) * (k + 1)
+  pub few : (k : ℕ) → (text_format format (length text)).reread ≡ Some k → new ≤ old + 20 * (length text + 1 + k)
   pub legacy : IsLegacySymbol text → new ≤ old + 16 * (length text + 1)
   pub v0 : IsV0Symbol text → old + 1 ≤ new
   pub no_symbol : (IsSymbol text → ⊥) → new ≡ old
 
 abbrev pub PrintingLooks : List ℕ → Bool → ℕ → ℕ → ℕ → Type 0
 PrintingLooks text hash limit old new = PrintingLooksIn text (unfolded hash limit) old new
-
--- the default limit
-abbrev pub most_bytes : ℕ
-most_bytes = 1000000
 
 -- the text that is printed
 abbrev pub printed : List ℕ → Bool → List ℕ

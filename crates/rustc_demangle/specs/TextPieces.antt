@@ -2,14 +2,14 @@
 use Rattle.std.specs.Prelude.{ℕ, zero, Bool, List, [], ◌∷◌, ◌++◌}
 use Rattle.std.specs.Option.{option_map_or}
 use Rattle.rustc_demangle.specs.Stripped.{stripped}
-use Rattle.rustc_demangle.specs.Symbols.{pieces_in, form_of, handed_in, unfolded}
+use Rattle.rustc_demangle.specs.Symbols.{pieces_in, form_in, handed_in, unfolded}
 use Rattle.rustc_demangle.specs.declared.format.Format.{Format}
 use Rattle.rustc_demangle.specs.Lines.{onto_first}
 use Rattle.rustc_demangle.specs.Filtered.{by_runs}
 
 -- the pieces that replace a run: those of its symbol within the limit, or the run itself if it is not a symbol
 abbrev pub run_pieces : Format → List ℕ → List (List ℕ)
-run_pieces format run = option_map_or (λ _. handed_in (stripped run) format) (pieces_in (form_of format) (stripped run)) (run ∷ [])
+run_pieces format run = option_map_or (λ _. handed_in (stripped run) format) (pieces_in (form_in format (stripped run)) (stripped run)) (run ∷ [])
 
 -- The pieces of the text without its first `skip` bytes. The plain text up to the next run is one piece, which may be
 -- empty. The pieces of that run follow, and so on.

@@ -2,12 +2,13 @@
 ghost use Rattle.std.specs.Prelude.{◌≡◌, [], Some, true, false, OnOk, OnErr};
 ghost use Rattle.rustc_demangle.specs.Coalescing.{PassedOn, PassedOn-nothing, PassedOn-joined};
 ghost use Rattle.std.specs.List.{concat};
-ghost use Rattle.rustc_demangle.specs.Symbols.{handed_in, printed};
+ghost use Rattle.rustc_demangle.specs.Symbols.{PrintingLooksIn, handed_in, printed};
 
 use crate::format::Format;
 use crate::value::Demangle;
 use arrayvec::ArrayString;
 use demangle_sink::{SinkRefused, TextSink};
+use demangle_symbol::cursor::Looks;
 
 /// The most bytes that are held for a formatter.
 const MOST_FORMATTED: usize = 256;
@@ -124,8 +125,8 @@ pub(crate) fn write_coalesced<S: TextSink>(
     pieces.flush()
 }
 
-/// Prints a symbol into a sink in a format, and passes its pieces on together. A text of up to 2,048
-/// bytes is passed on at once.
+/// Prints a symbol into a sink in a format, passes its pieces on together, and counts its looks. A
+/// text of up to 2,048 bytes is passed on at once.
 ///
 /// # Errors
 ///
@@ -135,11 +136,13 @@ pub(crate) fn write_at_once<S: TextSink>(
     symbol: &Demangle<'_>,
     out: &mut S,
     format: Format,
+    looks: &mut Looks,
 ) -> Result<(), SinkRefused>
     requires { S.failed out.old ≡ false }
     ensures text { OnOk result (S.took out.old (concat (handed_in symbol.now format)) out.new) }
+    ensures looks { PrintingLooksIn symbol.now format looks.old looks.new }
 {
     let mut pieces = CoalescingSink::<'_, S, MOST_FILTERED>::new(out);
-    symbol.write_formatted(&mut pieces, format)?;
+    symbol.write_formatted_counted(&mut pieces, format, looks)?;
     pieces.flush()
 }

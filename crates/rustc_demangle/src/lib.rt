@@ -18,14 +18,14 @@ mod text;
 mod value;
 
 pub use byte_before::plain_len;
-pub use demangle_symbol::cursor::Looks;
+pub use demangle_symbol::cursor::{Looks, RunLooks};
 pub use demangle_symbol::form::Form;
-pub use format::Format;
+pub use format::{Format, RereadLimit, SizeLimit};
 pub use runs::{run_len, run_start};
-pub use slice::{demangle_slice, demangle_slice_formatted};
+pub use slice::{demangle_slice, demangle_slice_counted, demangle_slice_formatted};
 pub use stream::{
-    BytesFilter, StreamFault, SymbolMemo, demangle_bytes, demangle_bytes_formatted,
-    demangle_bytes_limited, demangle_stream, demangle_stream_named,
+    BytesFilter, StreamFault, SymbolMemo, demangle_bytes, demangle_bytes_counted,
+    demangle_bytes_formatted, demangle_bytes_limited, demangle_stream, demangle_stream_named,
 };
 use strip::without_thin_lto;
 pub use text::{demangle_text, demangle_text_formatted, demangle_text_limited};
@@ -69,7 +69,22 @@ pub fn try_demangle(s: &str) -> Result<Demangle<'_>, TryDemangleError>
     ensures text { IfOk result (λ d. d ≡ stripped s.now) }
     ensures none { OnErr result (IsSymbol (stripped s.now) → ⊥) }
 {
-    let symbol = demangle(s);
+    try_demangle_counted(s, &mut Looks::new())
+}
+
+/// Parses a text as a Rust symbol, as `try_demangle` does, and counts its looks. Fails if it is not a
+/// symbol.
+pub fn try_demangle_counted<'a>(
+    s: &'a str,
+    looks: &mut Looks,
+) -> Result<Demangle<'a>, TryDemangleError>
+    ensures symbol { OnOk result (IsSymbol (stripped s.now)) }
+    ensures text { IfOk result (λ d. d ≡ stripped s.now) }
+    ensures none { OnErr result (IsSymbol (stripped s.now) → ⊥) }
+    ensures grows { looks.old ≤ looks.new }
+    ensures most { looks.new ≤ looks.old + 64 * (length s.now + 1) }
+{
+    let symbol = demangle_counted(s, looks);
     if symbol.has_style() {
         Ok(symbol)
     } else {

@@ -4,41 +4,55 @@ ghost use Rattle.std.specs.List.{list_all};
 ghost use Rattle.demangle_sink.specs.Sink.{IsWithin};
 ghost use Rattle.demangle_sink.specs.Slice.{overlay};
 ghost use Rattle.rustc_demangle.specs.Filtered.{is_run_byte};
+ghost use Rattle.rustc_demangle.specs.LinearLooks.{LooksLinear};
 ghost use Rattle.rustc_demangle.specs.Rewritten.{replacement_after, rewritten_in, rewritten_within};
 ghost use Rattle.rustc_demangle.specs.PutsText.{PutsText};
 
 use crate::byte_before::ByteBefore;
-use crate::format::Format;
+use crate::format::{Format, SizeLimit, unfolded_form};
 use crate::runs::{run_len, run_start, run_text};
 use crate::text::put_run;
 use demangle_sink::{SinkRefused, SliceSink, TextSink};
+use demangle_symbol::cursor::RunLooks;
 
-/// Writes the replacement of a candidate. Fails if the sink fails.
-fn put_candidate<'b>(
-    candidate: &[u8],
-    before: ByteBefore,
-    out: &mut SliceSink<'b>,
-    format: Format,
-) -> Result<(), SinkRefused>
-    requires run { list_all is_run_byte candidate.now ≡ true }
-    requires not_failed { ⟦<SliceSink<'b> as TextSink>⟧.failed out.old ≡ false }
-    ensures { PutsText ⟦<SliceSink<'b> as TextSink>⟧ out.old
-        (replacement_after format before candidate.now) result out.new }
-{
-    if before.is_alphanumeric() {
-        return out.put_bytes(candidate);
+impl ByteBefore {
+    /// Writes the replacement of a candidate that follows this, and counts its looks. Fails if the
+    /// sink fails.
+    fn put_candidate<'b>(
+        self,
+        candidate: &[u8],
+        out: &mut SliceSink<'b>,
+        format: Format,
+        looks: &mut RunLooks,
+    ) -> Result<(), SinkRefused>
+        requires run { list_all is_run_byte candidate.now ≡ true }
+        requires not_failed { ⟦<SliceSink<'b> as TextSink>⟧.failed out.old ≡ false }
+        ensures text { PutsText ⟦<SliceSink<'b> as TextSink>⟧ out.old
+            (replacement_after format self candidate.now) result out.new }
+        ensures linear { 0 < length candidate.now →
+            LooksLinear format (length candidate.now) looks.old looks.new }
+    {
+        if self.is_alphanumeric() {
+            return out.put_bytes(candidate);
+        }
+        put_run(run_text(candidate), out, format, looks)
     }
-    put_run(run_text(candidate), out, format)
 }
 
-/// Writes bytes, which need not be UTF-8, with each symbol of them demangled. Fails if the sink
-/// fails.
-fn put_slice<'b>(text: &[u8], out: &mut SliceSink<'b>, format: Format) -> Result<(), SinkRefused>
+/// Writes bytes, which need not be UTF-8, with each symbol of them demangled, and counts its looks.
+/// Fails if the sink fails.
+fn put_slice<'b>(
+    text: &[u8],
+    out: &mut SliceSink<'b>,
+    format: Format,
+    looks: &mut RunLooks,
+) -> Result<(), SinkRefused>
     requires { ⟦<SliceSink<'b> as TextSink>⟧.failed out.old ≡ false }
     ensures text { OnOk result (⟦<SliceSink<'b> as TextSink>⟧.took out.old
         (rewritten_in format text.now) out.new) }
     ensures fits { IsWithin (length (rewritten_in format text.now))
         (⟦<SliceSink<'b> as TextSink>⟧.room out.old) → IsOk result }
+    ensures linear { LooksLinear format (length text.now) looks.old looks.new }
 {
     let mut rest = text;
     while let Some(start) = run_start(rest) {
@@ -46,22 +60,25 @@ fn put_slice<'b>(text: &[u8], out: &mut SliceSink<'b>, format: Format) -> Result
         let (kept, found) = rest.split_at(before.plain_len(&rest[..start]));
         let (candidate, following) = found.split_at(run_len(found));
         out.put_bytes(kept)?;
-        put_candidate(candidate, before.after(kept), out, format)?;
+        before
+            .after(kept)
+            .put_candidate(candidate, out, format, looks)?;
         rest = following;
     }
     out.put_bytes(rest)
 }
 
-/// Writes any bytes into memory, with each symbol demangled. Returns their size, or `None` if it
-/// exceeds `usize::MAX`.
-fn write_slice(text: &[u8], out: &mut [u8], format: Format) -> Option<usize>
+/// Writes any bytes into memory, with each symbol demangled, and counts its looks. Returns their
+/// size, or `None` if it exceeds `usize::MAX`.
+fn write_slice(text: &[u8], out: &mut [u8], format: Format, looks: &mut RunLooks) -> Option<usize>
     ensures size { IfSome result (λ n. n ≡ length (rewritten_in format text.now)) }
     ensures bytes { IfSome result
         (λ _. out.new ≡ overlay out.old (rewritten_in format text.now)) }
     ensures none { IfNone result (usize.MAX < length (rewritten_in format text.now)) }
+    ensures linear { LooksLinear format (length text.now) looks.old looks.new }
 {
     let mut sink = SliceSink::new(out);
-    match put_slice(text, &mut sink, format) {
+    match put_slice(text, &mut sink, format, looks) {
         Ok(()) => Some(sink.len()),
         Err(_) => None,
     }
@@ -70,9 +87,9 @@ fn write_slice(text: &[u8], out: &mut [u8], format: Format) -> Option<usize>
 /// Writes any bytes into memory with each symbol of them demangled, as far as there is room.
 /// Returns the size of the complete output, including the bytes for which there was no room.
 ///
-/// Symbols are found as by `demangle_bytes_limited`, and cut at `limit` bytes. All other bytes are
-/// written unchanged. The size does not depend on the size of the memory. The memory after the
-/// written bytes stays unchanged. It does not allocate.
+/// Symbols are found and cut as by `demangle_bytes_limited`. All other bytes are written unchanged.
+/// The size does not depend on the size of the memory. The memory after the written bytes stays
+/// unchanged. It does not allocate.
 ///
 /// Returns `None` if the size exceeds `usize::MAX`.
 pub fn demangle_slice(
@@ -87,16 +104,36 @@ pub fn demangle_slice(
     ensures none { IfNone result
         (usize.MAX < length (rewritten_within include_hash limit text.now)) }
 {
-    let format = Format::unfolded(include_hash, limit);
+    let limit = SizeLimit::Bytes(limit);
+    let format = Format::bounded(unfolded_form(include_hash), limit);
     demangle_slice_formatted(text, out, format)
 }
 
-/// Writes any bytes into memory with each symbol of them demangled in a format, as `demangle_slice`
-/// does. Returns the size of the complete output, or `None` if it exceeds `usize::MAX`.
+/// Writes any bytes into memory with each symbol of them demangled in a format, as
+/// `demangle_slice_counted` does.
 pub fn demangle_slice_formatted(text: &[u8], out: &mut [u8], format: Format) -> Option<usize>
     ensures size { IfSome result (λ n. n ≡ length (rewritten_in format text.now)) }
     ensures bytes { IfSome result (λ _. out.new ≡ overlay out.old (rewritten_in format text.now)) }
     ensures none { IfNone result (usize.MAX < length (rewritten_in format text.now)) }
 {
-    write_slice(text, out, format)
+    demangle_slice_counted(text, out, format, &mut RunLooks::new())
+}
+
+/// Writes any bytes into memory with each symbol of them demangled in a format, as `demangle_slice`
+/// does. Returns the size of the complete output, or `None` if it exceeds `usize::MAX`.
+///
+/// The looks are counted. With a linear limit of the bytes that are read again, the looks are at
+/// most 23,586 for each byte of the text.
+pub fn demangle_slice_counted(
+    text: &[u8],
+    out: &mut [u8],
+    format: Format,
+    looks: &mut RunLooks,
+) -> Option<usize>
+    ensures size { IfSome result (λ n. n ≡ length (rewritten_in format text.now)) }
+    ensures bytes { IfSome result (λ _. out.new ≡ overlay out.old (rewritten_in format text.now)) }
+    ensures none { IfNone result (usize.MAX < length (rewritten_in format text.now)) }
+    ensures linear { LooksLinear format (length text.now) looks.old looks.new }
+{
+    write_slice(text, out, format, looks)
 }

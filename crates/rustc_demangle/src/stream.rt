@@ -17,7 +17,10 @@ mod pending_run;
 #[cfg(test)]
 mod tests;
 
-pub use bytes::{BytesFilter, demangle_bytes, demangle_bytes_formatted, demangle_bytes_limited};
+pub use bytes::{
+    BytesFilter, demangle_bytes, demangle_bytes_counted, demangle_bytes_formatted,
+    demangle_bytes_limited,
+};
 pub use fault::StreamFault;
 use line_reader::read_line;
 use line_writer::demangle_line;

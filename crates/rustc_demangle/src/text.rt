@@ -1,32 +1,36 @@
 //! Demangles the symbols of a text in memory.
-ghost use Rattle.std.specs.Prelude.{◌≡◌, true, false, OnOk};
+ghost use Rattle.std.specs.Prelude.{◌≡◌, ◌<◌, length, true, false, OnOk};
 ghost use Rattle.std.specs.List.{list_all};
 ghost use Rattle.demangle_sink.specs.PutsPieces.{PutsPieces};
 ghost use Rattle.demangle_sink.specs.Writes.{Writes};
 ghost use Rattle.rustc_demangle.specs.Filtered.{filtered, is_run_byte};
+ghost use Rattle.rustc_demangle.specs.LinearLooks.{LooksLinear};
 ghost use Rattle.rustc_demangle.specs.TextPieces.{run_pieces, filtered_pieces, filtered_pieces_in};
-ghost use Rattle.rustc_demangle.specs.Symbols.{most_bytes};
+ghost use Rattle.rustc_demangle.specs.Limits.{most_bytes};
 
-use crate::format::Format;
+use crate::format::{Format, MAX_SIZE};
 use crate::runs::{run_len, run_start};
-use crate::value::{Demangle, MAX_SIZE};
+use crate::value::Demangle;
 use demangle_sink::{SinkRefused, TextSink, put_piece};
-use demangle_symbol::cursor::Looks;
+use demangle_symbol::cursor::RunLooks;
 
 /// Writes the replacement of a run: the pieces of its symbol, or the run itself if it is not a
-/// symbol. Fails if the sink fails.
+/// symbol. Counts its looks. Fails if the sink fails.
 pub(crate) fn put_run<S: TextSink>(
     run: &str,
     out: &mut S,
     format: Format,
+    looks: &mut RunLooks,
 ) -> Result<(), SinkRefused>
     requires run { list_all is_run_byte run.now ≡ true }
     requires not_failed { S.failed out.old ≡ false }
-    ensures { PutsPieces S.TextSink out.old (run_pieces format run.now) result out.new }
+    ensures pieces { PutsPieces S.TextSink out.old (run_pieces format run.now) result out.new }
+    ensures linear { 0 < length run.now →
+        LooksLinear format (length run.now) looks.old looks.new }
 {
-    let symbol = Demangle::read_run(run);
+    let symbol = Demangle::read_run_counted(run, &mut looks.accepting_looks);
     if symbol.has_style() {
-        symbol.write_pieces(out, format, &mut Looks::new())
+        symbol.write_pieces(out, format, &mut looks.printing_looks)
     } else {
         put_piece(run, out)
     }
@@ -42,7 +46,7 @@ fn put_text<S: TextSink>(text: &str, out: &mut S, format: Format) -> Result<(), 
         let (kept, found) = rest.split_at(start);
         let (run, following) = found.split_at(run_len(found.as_bytes()));
         put_piece(kept, out)?;
-        put_run(run, out, format)?;
+        put_run(run, out, format, &mut RunLooks::new())?;
         rest = following;
     }
     put_piece(rest, out)

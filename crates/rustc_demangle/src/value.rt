@@ -2,24 +2,22 @@
 ghost use Rattle.std.specs.Prelude.{◌≡◌, ◌+◌, ◌-◌, ◌*◌, ◌≤◌, length, true, false, IsTrue, IsAscii, IfSome, IfNone, None};
 ghost use Rattle.std.specs.List.{list_all};
 ghost use Rattle.demangle_legacy.specs.Legacy.{legacy_of};
-ghost use Rattle.demangle_sink.specs.Limit.{PrintsUpTo, Ready};
+ghost use Rattle.demangle_sink.specs.Limit.{PrintsUpTo, Ready, unused};
 ghost use Rattle.rustc_demangle.specs.Filtered.{is_run_byte};
 ghost use Rattle.rustc_demangle.specs.PathEnds.{path_len_of};
+ghost use Rattle.rustc_demangle.specs.Shape.{limited};
 ghost use Rattle.rustc_demangle.specs.Stripped.{is_allowed, is_graphic, stripped};
 ghost use Rattle.rustc_demangle.specs.Style.{style_texts, is_style_all, style_len, style_looks, style_looks_again, style_least, IsReadAs, HasNoStyle, HasStyle};
-ghost use Rattle.rustc_demangle.specs.Symbols.{form_of, IsSymbol};
+ghost use Rattle.rustc_demangle.specs.Symbols.{IsSymbol};
 ghost use Rattle.demangle_v0_grammar.specs.V0.{v0_of};
 
 pub(crate) mod printing;
 
-use crate::format::Format;
+use crate::format::TextFormat;
 use crate::strip::without_thin_lto;
 use demangle_sink::{SinkRefused, SizeLimitedFmtAdapter, TextSink};
 use demangle_symbol::cursor::{Looks, Symbol};
 use std::marker::Model;
-
-/// The default limit: the most bytes of a symbol before the marker and the suffix.
-pub(crate) const MAX_SIZE: usize = 1_000_000;
 
 /// The scheme of a symbol, and its parsed form.
 #[derive(Drop)]
@@ -34,19 +32,19 @@ impl DemangleStyle<'_> {
     fn write_to<S: TextSink>(
         &self,
         out: &mut SizeLimitedFmtAdapter<'_, S>,
-        format: Format,
+        format: TextFormat,
         looks: &mut Looks,
     ) -> Result<(), SinkRefused>
         requires ready { Ready S.TextSink out.old }
-        requires same { out.old.references ≡ format.references }
-        ensures prints { PrintsUpTo S.TextSink out.old (style_texts (form_of format) self.now)
-            (is_style_all (form_of format) self.now) result out.new }
+        requires same { out.old.reread ≡ unused format.reread }
+        ensures prints { PrintsUpTo S.TextSink out.old (style_texts (limited format) self.now)
+            (is_style_all (limited format) self.now) result out.new }
         ensures grows { looks.old ≤ looks.new }
         ensures most { looks.new ≤ looks.old
-            + style_looks (form_of format) out.old.remaining self.now }
-        ensures again { looks.new ≤ looks.old + style_looks_again (form_of format) self.now }
-        ensures few { IfSome format.references (λ k. looks.new ≤ looks.old
-            + 20 * (style_len self.now + 1) * (k + 1)) }
+            + style_looks (limited format) out.old.remaining self.now }
+        ensures again { looks.new ≤ looks.old + style_looks_again (limited format) self.now }
+        ensures few { IfSome format.reread (λ k. looks.new ≤ looks.old
+            + 20 * (style_len self.now + 1 + k)) }
         ensures least { looks.old + style_least self.now ≤ looks.new }
     {
         match self {

@@ -1,10 +1,17 @@
 //! How symbols are printed.
+pub use crate::rustc_demangle::RereadLimit;
+use crate::rustc_demangle::SizeLimit;
 use crate::{MAX_SIZE, rustc_demangle};
 
 /// How a symbol is printed.
 ///
-/// [`Format::new`] prints without hashes, prints generic arguments, and cuts each path at
-/// [`MAX_SIZE`] bytes. Each method returns the same format with one of these changed.
+/// [`Format::new`] prints without hashes, prints generic arguments, and gives no limits. Each method
+/// returns the same format with one of these changed.
+///
+/// A call over one symbol, and one that writes a text to a sink, then cuts each path at
+/// [`MAX_SIZE`] bytes. A call over bytes cuts the path of a symbol of n bytes at 999 n - 20 bytes,
+/// and at `MAX_SIZE` at most. So it writes at most 1,000 bytes for each byte that it reads. It also
+/// has [`RereadLimit::Linear`], so its time is linear in the length of what it reads.
 ///
 /// ```
 /// use kodliwe::{ArraySink, Format, demangle};
@@ -20,16 +27,18 @@ use crate::{MAX_SIZE, rustc_demangle};
 pub struct Format {
     has_hash: bool,
     has_folded_arguments: bool,
-    limit: usize,
+    limit: Option<usize>,
+    reread: Option<RereadLimit>,
 }
 
 impl Format {
-    /// Returns the format without hashes, with generic arguments, and with the default limit.
+    /// Returns the format without hashes, with generic arguments, and without limits of its own.
     pub const fn new() -> Format {
         Format {
             has_hash: false,
             has_folded_arguments: false,
-            limit: MAX_SIZE,
+            limit: None,
+            reread: None,
         }
     }
 
@@ -51,18 +60,42 @@ impl Format {
 
     /// Sets the most bytes that are printed for a symbol, without its suffix.
     pub const fn with_limit(self, limit: usize) -> Format {
-        Format { limit, ..self }
+        Format {
+            limit: Some(limit),
+            ..self
+        }
     }
 
-    pub(crate) fn inner(self) -> rustc_demangle::Format {
-        let form = rustc_demangle::Form {
+    /// Sets the most bytes of a v0 symbol that its references may make a print of it read again.
+    pub const fn with_reread_limit(self, reread: RereadLimit) -> Format {
+        Format {
+            reread: Some(reread),
+            ..self
+        }
+    }
+
+    fn form(self) -> rustc_demangle::Form {
+        rustc_demangle::Form {
             include_hash: self.has_hash,
             fold_arguments: self.has_folded_arguments,
-        };
+        }
+    }
+
+    /// Returns the format for calls over symbols, and for those that write to a sink.
+    pub(crate) fn for_symbols(self) -> rustc_demangle::Format {
         rustc_demangle::Format {
-            form,
-            limit: self.limit,
-            references: None,
+            form: self.form(),
+            limit: SizeLimit::Bytes(self.limit.unwrap_or(MAX_SIZE)),
+            reread: self.reread.unwrap_or(RereadLimit::Unlimited),
+        }
+    }
+
+    /// Returns the format for calls over bytes.
+    pub(crate) fn for_bytes(self) -> rustc_demangle::Format {
+        rustc_demangle::Format {
+            form: self.form(),
+            limit: self.limit.map_or(SizeLimit::Linear, SizeLimit::Bytes),
+            reread: self.reread.unwrap_or(RereadLimit::Linear),
         }
     }
 }

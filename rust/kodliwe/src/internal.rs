@@ -15,7 +15,8 @@ pub mod piece_buffer {
 /// Items of the crate `rustc_demangle` of the source.
 pub mod rustc_demangle {
     pub use crate::rustc_demangle::{
-        Demangle, Form, Format, demangle_slice_formatted, try_demangle, write_with_path_len,
+        Demangle, Form, Format, SizeLimit, demangle_slice_formatted, try_demangle,
+        write_with_path_len,
     };
     /// Items of its module `sink`.
     pub mod sink {
@@ -23,8 +24,8 @@ pub mod rustc_demangle {
     }
     #[cfg(feature = "stream")]
     pub use crate::rustc_demangle::{
-        BytesFilter, StreamFault, SymbolMemo, demangle_bytes_formatted, demangle_stream_named,
-        run_start,
+        BytesFilter, StreamFault, SymbolMemo, demangle_bytes_counted, demangle_bytes_formatted,
+        demangle_stream_named, run_start,
     };
 }
 

@@ -26,7 +26,9 @@
 //!
 //! Reading and printing a symbol allocates nothing. Reading takes time in proportion to the symbol.
 //! Printing takes at most time in proportion to the product of its length and that of the printed
-//! path. So a limit of the path bounds the time for a symbol that is made to be costly.
+//! path. So a limit of the path bounds the time for a symbol that is made to be costly. Without a
+//! limit of the caller, the calls over bytes take time, and write bytes, in proportion to the
+//! length of what they read.
 //!
 //! # Features
 //!
@@ -73,7 +75,7 @@ mod traits;
 #[cfg(feature = "std")]
 pub use demangle_sink::WriteSink;
 pub use demangle_sink::{ArraySink, FmtSink, SinkRefused, SliceSink, TextSink};
-pub use format::Format;
+pub use format::{Format, RereadLimit};
 #[cfg(feature = "stream")]
 pub use streams::{
     BytesFilter, StreamFault, demangle_bytes, demangle_bytes_formatted, demangle_bytes_limited,

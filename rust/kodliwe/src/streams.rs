@@ -1,8 +1,8 @@
 //! Filters what a reader has into a writer.
+use crate::Format;
 use crate::piece_buffer::PieceBuffer;
 use crate::rustc_demangle;
 use crate::support::alloc::Global;
-use crate::{Format, MAX_SIZE};
 use std::io::{self, BufRead, Write};
 use std::{error, fmt};
 
@@ -96,7 +96,7 @@ pub fn demangle_bytes_formatted<R: BufRead, W: Write>(
     output: &mut W,
     format: Format,
 ) -> Result<(), StreamFault> {
-    rustc_demangle::demangle_bytes_formatted(Global, input, output, format.inner())
+    rustc_demangle::demangle_bytes_formatted(Global, input, output, format.for_bytes())
 }
 
 /// A filter of any bytes that runs step by step, for readers that pause.
@@ -119,7 +119,7 @@ pub struct BytesFilter {
 impl BytesFilter {
     /// Returns a filter that has read nothing. It prints hashes if `include_hash` is true.
     pub fn new(include_hash: bool) -> BytesFilter {
-        BytesFilter::with_limit(include_hash, MAX_SIZE)
+        BytesFilter::with_format(Format::new().with_hash(include_hash))
     }
 
     /// Returns a filter as [`new`](BytesFilter::new) does, which cuts each path at `limit` bytes.
@@ -131,7 +131,7 @@ impl BytesFilter {
     pub fn with_format(format: Format) -> BytesFilter {
         BytesFilter {
             filter: rustc_demangle::BytesFilter::new(Global),
-            memo: rustc_demangle::SymbolMemo::with_format(Global, format.inner()),
+            memo: rustc_demangle::SymbolMemo::with_format(Global, format.for_bytes()),
         }
     }
 

@@ -48,3 +48,27 @@ impl Looks {
 }
 
 const _: () = prove!(mem::size_of::<Looks>() == 0);
+
+/// The looks of a text that is printed before it is known to be a symbol. They occupy no bytes.
+#[derive(Drop)]
+pub struct RunLooks {
+    /// Those that decide whether it is a symbol, and those of what is printed up to then.
+    pub accepting_looks: Looks,
+    /// Those of what is printed after that.
+    pub printing_looks: Looks,
+}
+
+impl RunLooks {
+    /// Returns counts of zero looks.
+    pub fn new() -> RunLooks
+        ensures accepting { result.accepting_looks ≡ 0 }
+        ensures printing { result.printing_looks ≡ 0 }
+    {
+        RunLooks {
+            accepting_looks: Looks::new(),
+            printing_looks: Looks::new(),
+        }
+    }
+}
+
+const _: () = prove!(mem::size_of::<RunLooks>() == 0);

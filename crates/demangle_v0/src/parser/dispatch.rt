@@ -93,7 +93,7 @@ impl Parser<'_, '_> {
             Continuation::FirstField => Ok(self.first_list_constant(ConstantList::Fields)),
             Continuation::NextField => Ok(self.next_list_constant(ConstantList::Fields)),
             Continuation::Field => { self.out_of_line(OutOfLine::Field, output) }
-            Continuation::AfterBackref => Ok(self.after_backref()),
+            Continuation::AfterBackref => Ok(self.after_backref(output)),
             Continuation::CloseParen
             | Continuation::CloseAngle
             | Continuation::Mut

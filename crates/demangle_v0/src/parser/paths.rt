@@ -54,7 +54,8 @@ impl Parser<'_, '_> {
     ///
     /// If `defers` is true, the tags of paths that are nested in one another are read together, up to
     /// a namespace in upper case or until the stack is nearly full. If they end at a crate, the names
-    /// are read and printed after its own. Otherwise a frame is pushed for each of them.
+    /// are read and printed after its own, and without output also after a back reference. Otherwise
+    /// a frame is pushed for each of them.
     ///
     /// Fails if a part that it reads has an error, if the depth is used up, or if the output rejects
     /// a piece.
@@ -95,6 +96,10 @@ impl Parser<'_, '_> {
                     if count == 0 {
                         return performed;
                     }
+                    return self.names_after(performed, count, outer, output);
+                }
+                if (tag == b'B') & (count > 0) & !output.is_printing() {
+                    let performed = self.follow_backref(Continuation::Path, output);
                     return self.names_after(performed, count, outer, output);
                 }
                 self.push_names(count, outer);

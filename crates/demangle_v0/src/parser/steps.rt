@@ -84,12 +84,12 @@ impl Parser<'_, '_> {
     {
         let mut continuation = self.continuation;
         'steps: while self.stack.has_room() {
-            let Some(at) = self.resume(base, continuation) else {
+            let Some(next) = self.resume(base, continuation) else {
                 self.continuation = Continuation::End;
                 return ReadOutcome::Complete;
             };
-            match self.steps(at, true, &mut NoOutput) {
-                Ok(next) => continuation = next,
+            match self.steps(next, true, &mut NoOutput) {
+                Ok(following) => continuation = following,
                 Err(_) => return ReadOutcome::Failed,
             }
         }

@@ -1,6 +1,6 @@
 //! Tests of the fuel of a parse that prints before it is known whether a text is a symbol.
 use demangle_sink::{ArraySink, SizeLimitedFmtAdapter};
-use demangle_symbol::cursor::Looks;
+use demangle_symbol::cursor::RunLooks;
 use demangle_symbol::form::Form;
 use demangle_v0::Printed;
 use std::alloc::{AllocError, Global};
@@ -25,7 +25,7 @@ fn is_printed_first(text: &str, limit: usize, form: Form) -> bool {
     }
     let mut sink: ArraySink<4096> = ArraySink::new();
     let mut out = SizeLimitedFmtAdapter::new(&mut sink, limit);
-    let looks = &mut Looks::new();
+    let looks = &mut RunLooks::new();
     matches!(
         demangle_v0::demangle_printed(text, &mut out, form, looks),
         Printed::Symbol(_, "x")
@@ -52,7 +52,7 @@ fn assert_prints_whole(rt: &impl Abort, symbol: &str, wanted: &str) {
     assert!(rt; symbol.is_ascii());
     let mut sink: ArraySink<4096> = ArraySink::new();
     let mut out = SizeLimitedFmtAdapter::new(&mut sink, 4096);
-    let looks = &mut Looks::new();
+    let looks = &mut RunLooks::new();
     let printed = demangle_v0::demangle_printed(symbol, &mut out, PLAIN, looks);
     assert!(rt; matches!(printed, Printed::Symbol(_, "")), "of {symbol}");
     assert_eq!(rt; sink.as_str(), wanted, "of {symbol}");

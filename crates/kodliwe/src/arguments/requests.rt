@@ -7,9 +7,6 @@ ghost use Rattle.kodliwe.specs.CommandLine.{options_of, rejection_of};
 use crate::arguments::{InputSource, Request, Target, UsageError, ValuedOption};
 use std::alloc::{AllocError, Global};
 
-/// The default limit on the bytes of a path.
-const LIMIT: usize = 1_000_000;
-
 impl<'a> Request<'a> {
     /// Returns a request with the default options and nothing to filter.
     pub(super) fn new(alloc: Global) -> Request<'a>
@@ -17,14 +14,14 @@ impl<'a> Request<'a> {
         ensures output { result.output ≡ None }
         ensures hash { result.include_hash ≡ false }
         ensures fold { result.fold_arguments ≡ false }
-        ensures limit { result.limit ≡ 1000000 }
+        ensures limit { result.limit ≡ None }
     {
         Request {
             sources: Vec::new(alloc),
             output: None,
             include_hash: false,
             fold_arguments: false,
-            limit: LIMIT,
+            limit: None,
         }
     }
 
@@ -96,7 +93,7 @@ impl<'a> Request<'a> {
                 let Ok(limit) = value.parse::<usize>() else {
                     return Err(UsageError::BadNumber(argument, value));
                 };
-                self.limit = limit;
+                self.limit = Some(limit);
             }
         }
         Ok(())

@@ -1,16 +1,17 @@
 //! Demangles any bytes that come from a reader.
-ghost use Rattle.std.specs.Prelude.{◌≡◌, [], true, false, Ok, Some, IfSome, OnOk, IfErr};
+ghost use Rattle.std.specs.Prelude.{◌≡◌, ◌+◌, length, [], true, false, Ok, Some, IfSome, OnOk, IfErr};
 ghost use Rattle.std.specs.Io.KnownBytes.{Appends};
 ghost use Rattle.rustc_demangle.specs.Rewritten.{rewritten, rewritten_after, rewritten_in, rewritten_within};
-ghost use Rattle.rustc_demangle.specs.Symbols.{unfolded, most_bytes};
+ghost use Rattle.rustc_demangle.specs.Symbols.{bounded_within, linear};
 ghost use Rattle.rustc_demangle.specs.ByteStream.{Unwritten, unwritten, from_start, IsPartialCandidate, StepFiltered, StepFinished, StepFailed, BytesStopped};
+ghost use Rattle.rustc_demangle.specs.LinearLooks.{LooksLinear, NoLooksUnread, StepPaid};
 
 use crate::byte_before::ByteBefore;
-use crate::format::Format;
+use crate::format::{Format, SizeLimit, unfolded_form};
 use crate::stream::fault::{StreamFault, read_fault};
 use crate::stream::memo::SymbolMemo;
-use crate::stream::pending_run::{Pending, filter_chunk, finish};
-use crate::value::MAX_SIZE;
+use crate::stream::pending_run::Pending;
+use demangle_symbol::cursor::RunLooks;
 use std::alloc::{Allocator, Global};
 use std::io;
 use std::io::{BufRead, Write};
@@ -51,11 +52,56 @@ impl<A: Allocator> BytesFilter<A> {
     /// and may read another input. The memo determines how symbols are printed, and remembers their
     /// texts.
     ///
+    /// The looks are counted. With a linear limit of the bytes that are read again, the looks of
+    /// all steps are at most 23,586 for each byte that was read.
+    ///
     /// # Errors
     ///
     /// Fails if the reader or the writer fails, or if memory can't be allocated. If the reader or
     /// an allocation fails, nothing is consumed and nothing is written. The caller can then repeat
     /// the step, for example after an interrupted read.
+    pub fn step_counted<R: BufRead, W: Write>(
+        &mut self,
+        input: &mut R,
+        output: &mut W,
+        memo: &mut SymbolMemo,
+        looks: &mut RunLooks,
+    ) -> Result<bool, StreamFault>
+        ensures took { result ≡ Ok true → StepFiltered (rewritten_after memo.old)
+            self.old self.new (R.remaining input.old) (R.remaining input.new)
+            (W.contents output.old) (W.contents output.new) }
+        ensures ended { result ≡ Ok false → StepFinished (rewritten_after memo.old)
+            self.old self.new (R.remaining input.old) (R.remaining input.new)
+            (W.contents output.old) (W.contents output.new) }
+        ensures refused { IfErr result (λ fault. StepFailed fault self.old self.new
+            (R.remaining input.old) (R.remaining input.new)
+            (W.contents output.old) (W.contents output.new)) }
+        ensures same { memo.new ≡ memo.old }
+        ensures paid { OnOk result (StepPaid memo.old self.old self.new (R.remaining input.old)
+            (R.remaining input.new) looks.old looks.new) }
+        ensures linear { IfSome (R.remaining input.old) (λ left.
+            LooksLinear memo.old (length self.old.bytes + length left) looks.old looks.new) }
+        ensures unread { IfErr result (λ fault. NoLooksUnread fault looks.old looks.new) }
+    {
+        let available = match input.fill_buf() {
+            Ok(available) => available,
+            Err(error) => return Err(read_fault(error)),
+        };
+        if available.is_empty() {
+            self.pending.finish(output, memo, looks)?;
+            self.pending.before = ByteBefore::Outside;
+            return Ok(false);
+        }
+        let taken = self.pending.filter_chunk(available, output, memo, looks)?;
+        input.consume(taken);
+        Ok(true)
+    }
+
+    /// Filters some of the reader's available bytes, as `step_counted` does.
+    ///
+    /// # Errors
+    ///
+    /// Fails as `step_counted` does.
     pub fn step<R: BufRead, W: Write>(
         &mut self,
         input: &mut R,
@@ -73,46 +119,13 @@ impl<A: Allocator> BytesFilter<A> {
             (W.contents output.old) (W.contents output.new)) }
         ensures same { memo.new ≡ memo.old }
     {
-        let available = match input.fill_buf() {
-            Ok(available) => available,
-            Err(error) => return Err(read_fault(error)),
-        };
-        if available.is_empty() {
-            finish(&mut self.pending, output, memo)?;
-            self.pending.before = ByteBefore::Outside;
-            return Ok(false);
-        }
-        let taken = filter_chunk(&mut self.pending, available, output, memo)?;
-        input.consume(taken);
-        Ok(true)
+        self.step_counted(input, output, memo, &mut RunLooks::new())
     }
-}
-
-/// Makes steps up to the end of the input. Fails as `BytesFilter::step` does.
-fn run_to_end<R: BufRead, W: Write, A: Allocator>(
-    filter: &mut BytesFilter<A>,
-    input: &mut R,
-    output: &mut W,
-    memo: &mut SymbolMemo,
-) -> Result<(), StreamFault>
-    requires { filter.old ≡ from_start [] }
-    ensures ok { OnOk result (IfSome (R.remaining input.old) (λ text.
-        (R.remaining input.new ≡ Some []) × Appends (W.contents output.old) (W.contents output.new)
-        (rewritten_in memo.old text))) }
-    ensures err { IfErr result (λ fault. IfSome (R.remaining input.old) (λ text.
-        BytesStopped (rewritten_after memo.old) fault (from_start text)
-        (W.contents output.old) (W.contents output.new))) }
-{
-    for _ in 0..=u64::MAX {
-        if !filter.step(input, output, memo)? {
-            return Ok(());
-        }
-    }
-    Err(StreamFault::Read(io::Error::other("too many steps")))
 }
 
 /// Writes the input, which may be any bytes, with each symbol of it demangled. Each symbol is cut
-/// at `limit` bytes before its suffix.
+/// at `limit` bytes before its suffix, or where its references would make a print of it read more
+/// than 384 bytes again for each of its own, or more than 384,000,000.
 ///
 /// A candidate symbol, or run, starts with `_ZN` or `_R`. It continues up to the next byte that is
 /// not an ASCII letter, a digit, `$`, `.` or `_`. A run that is not a symbol is written unchanged,
@@ -141,15 +154,46 @@ pub fn demangle_bytes_limited<R: BufRead, W: Write>(
         (R.remaining input.new ≡ Some []) × Appends (W.contents output.old) (W.contents output.new)
         (rewritten_within include_hash limit text))) }
     ensures err { IfErr result (λ fault. IfSome (R.remaining input.old) (λ text.
-        BytesStopped (rewritten_after (unfolded include_hash limit)) fault (from_start text)
+        BytesStopped (rewritten_after (bounded_within include_hash limit)) fault (from_start text)
         (W.contents output.old) (W.contents output.new))) }
 {
-    let format = Format::unfolded(include_hash, limit);
+    let limit = SizeLimit::Bytes(limit);
+    let format = Format::bounded(unfolded_form(include_hash), limit);
     demangle_bytes_formatted(alloc, input, output, format)
 }
 
-/// Writes the input, which may be any bytes, with each symbol of it demangled in a format, as
-/// `demangle_bytes_limited` does.
+/// Writes the input, which may be any bytes, with each symbol of it demangled, as
+/// `demangle_bytes_limited` does. The memo determines how symbols are printed, and remembers their
+/// texts.
+///
+/// The looks are counted. With a linear limit of the bytes that are read again, the looks are at
+/// most 23,586 for each byte of the input, whatever the chunks of the reader are.
+pub fn demangle_bytes_counted<R: BufRead, W: Write>(
+    input: &mut R,
+    output: &mut W,
+    memo: &mut SymbolMemo,
+    looks: &mut RunLooks,
+) -> Result<(), StreamFault>
+    ensures ok { OnOk result (IfSome (R.remaining input.old) (λ text.
+        (R.remaining input.new ≡ Some []) × Appends (W.contents output.old) (W.contents output.new)
+        (rewritten_in memo.old text))) }
+    ensures err { IfErr result (λ fault. IfSome (R.remaining input.old) (λ text.
+        BytesStopped (rewritten_after memo.old) fault (from_start text)
+        (W.contents output.old) (W.contents output.new))) }
+    ensures same { memo.new ≡ memo.old }
+    ensures linear { IfSome (R.remaining input.old) (λ text.
+        LooksLinear memo.old (length text) looks.old looks.new) }
+{
+    let mut filter = BytesFilter::new(memo.allocator());
+    for _ in 0..=u64::MAX {
+        if !filter.step_counted(input, output, memo, looks)? {
+            return Ok(());
+        }
+    }
+    Err(StreamFault::Read(io::Error::other("too many steps")))
+}
+
+/// Writes the input with each symbol of it demangled in a format, as `demangle_bytes_counted` does.
 pub fn demangle_bytes_formatted<R: BufRead, W: Write>(
     alloc: Global,
     input: &mut R,
@@ -163,13 +207,13 @@ pub fn demangle_bytes_formatted<R: BufRead, W: Write>(
         BytesStopped (rewritten_after format) fault (from_start text)
         (W.contents output.old) (W.contents output.new))) }
 {
-    let mut filter = BytesFilter::new(alloc);
     let mut memo = SymbolMemo::with_format(alloc, format);
-    run_to_end(&mut filter, input, output, &mut memo)
+    demangle_bytes_counted(input, output, &mut memo, &mut RunLooks::new())
 }
 
 /// Writes the input, which may be any bytes, with each symbol of it demangled, as
-/// `demangle_bytes_limited` does. Each symbol is cut at 1,000,000 bytes.
+/// `demangle_bytes_limited` does. A symbol of n bytes is cut at 999 n - 20 bytes, and at 1,000,000
+/// at most. So the output has at most 1,000 bytes for each byte of the input.
 pub fn demangle_bytes<R: BufRead, W: Write>(
     alloc: Global,
     input: &mut R,
@@ -180,8 +224,9 @@ pub fn demangle_bytes<R: BufRead, W: Write>(
         (R.remaining input.new ≡ Some []) × Appends (W.contents output.old) (W.contents output.new)
         (rewritten include_hash text))) }
     ensures err { IfErr result (λ fault. IfSome (R.remaining input.old) (λ text.
-        BytesStopped (rewritten_after (unfolded include_hash most_bytes)) fault (from_start text)
+        BytesStopped (rewritten_after (linear include_hash)) fault (from_start text)
         (W.contents output.old) (W.contents output.new))) }
 {
-    demangle_bytes_limited(alloc, input, output, include_hash, MAX_SIZE)
+    let format = Format::bounded(unfolded_form(include_hash), SizeLimit::Linear);
+    demangle_bytes_formatted(alloc, input, output, format)
 }

@@ -4,42 +4,53 @@ ghost use Rattle.std.specs.Io.KnownBytes.{Appends};
 ghost use Rattle.std.specs.List.{concat, list_all};
 ghost use Rattle.rustc_demangle.specs.Filtered.{filtered, is_run_byte, replacement_in};
 ghost use Rattle.rustc_demangle.specs.Stripped.{stripped};
-ghost use Rattle.rustc_demangle.specs.Symbols.{handed_in};
+ghost use Rattle.rustc_demangle.specs.LinearLooks.{PrintsLinear};
+ghost use Rattle.rustc_demangle.specs.Symbols.{PrintingLooksIn, handed_in};
 
 use crate::coalescing::write_at_once;
 use crate::format::Format;
 use crate::text::demangle_text;
 use crate::value::Demangle;
 use demangle_sink::WriteSink;
+use demangle_symbol::cursor::{Looks, RunLooks};
 use std::io;
 use std::io::Write;
 
-/// Writes a symbol, with a separate write for each piece. Fails if the writer fails.
-fn write_symbol<W: Write>(symbol: &Demangle<'_>, output: &mut W, format: Format) -> io::Result<()>
-    ensures { OnOk result (Appends (W.contents output.old) (W.contents output.new)
+/// Writes a symbol, with a separate write for each piece, and counts its looks. Fails if the writer
+/// fails.
+fn write_symbol<W: Write>(
+    symbol: &Demangle<'_>,
+    output: &mut W,
+    format: Format,
+    looks: &mut Looks,
+) -> io::Result<()>
+    ensures text { OnOk result (Appends (W.contents output.old) (W.contents output.new)
         (concat (handed_in symbol.now format))) }
+    ensures looks { PrintingLooksIn symbol.now format looks.old looks.new }
 {
     let mut sink = WriteSink::new(output);
     // If it fails, the sink holds the writer's error.
-    let _ = symbol.write_formatted(&mut sink, format);
+    let _ = symbol.write_formatted_counted(&mut sink, format, looks);
     match sink.into_fault() {
         Some(error) => Err(error),
         None => Ok(()),
     }
 }
 
-/// Writes a symbol, by one call of the writer if its text has up to 2,048 bytes. A longer text is
-/// written in parts. Fails if the writer fails.
+/// Writes a symbol, by one call of the writer if its text has up to 2,048 bytes, and counts its
+/// looks. A longer text is written in parts. Fails if the writer fails.
 fn write_symbol_at_once<W: Write>(
     symbol: &Demangle<'_>,
     output: &mut W,
     format: Format,
+    looks: &mut Looks,
 ) -> io::Result<()>
-    ensures { OnOk result (Appends (W.contents output.old) (W.contents output.new)
+    ensures text { OnOk result (Appends (W.contents output.old) (W.contents output.new)
         (concat (handed_in symbol.now format))) }
+    ensures looks { PrintingLooksIn symbol.now format looks.old looks.new }
 {
     let mut sink = WriteSink::new(output);
-    let written = write_at_once(symbol, &mut sink, format);
+    let written = write_at_once(symbol, &mut sink, format, looks);
     match sink.into_fault() {
         Some(error) => Err(error),
         // If it fails, the sink holds the writer's error.
@@ -54,48 +65,67 @@ fn write_text<W: Write>(text: &str, output: &mut W) -> io::Result<()>
     output.write_all(text.as_bytes())
 }
 
-/// Writes the replacement of a run that was read: the printed symbol, or the run itself if it is not a
-/// symbol. Either is one call of the writer if it has up to 2,048 bytes. Fails if the writer fails.
-pub(super) fn write_read_at_once<W: Write>(
-    symbol: &Demangle<'_>,
-    run: &str,
-    output: &mut W,
-    format: Format,
-) -> io::Result<()>
-    requires { symbol.now ≡ stripped run.now }
-    ensures { OnOk result (Appends (W.contents output.old) (W.contents output.new)
-        (replacement_in format run.now)) }
-{
-    if symbol.has_style() {
-        write_symbol_at_once(symbol, output, format)
-    } else {
-        write_text(run, output)
+impl Demangle<'_> {
+    /// Writes the replacement of a run that was read as this: the printed symbol, or the run itself
+    /// if it is not a symbol. Either is one call of the writer if it has up to 2,048 bytes. Counts
+    /// the looks of printing. Fails if the writer fails.
+    pub(super) fn write_read_at_once<W: Write>(
+        &self,
+        run: &str,
+        output: &mut W,
+        format: Format,
+        looks: &mut Looks,
+    ) -> io::Result<()>
+        requires { self.now ≡ stripped run.now }
+        ensures text { OnOk result (Appends (W.contents output.old) (W.contents output.new)
+            (replacement_in format run.now)) }
+        ensures prints { PrintsLinear format 1 (length run.now) looks.old looks.new }
+    {
+        if self.has_style() {
+            write_symbol_at_once(self, output, format, looks)
+        } else {
+            write_text(run, output)
+        }
     }
 }
 
-/// Writes the replacement of a run, as `write_read_at_once` does. Fails if the writer fails.
+/// Writes the replacement of a run, as `write_read_at_once` does, and counts its looks. Fails if
+/// the writer fails.
 pub(super) fn write_run_at_once<W: Write>(
     run: &str,
     output: &mut W,
     format: Format,
+    looks: &mut RunLooks,
 ) -> io::Result<()>
     requires { list_all is_run_byte run.now ≡ true }
-    ensures { OnOk result (Appends (W.contents output.old) (W.contents output.new)
+    ensures text { OnOk result (Appends (W.contents output.old) (W.contents output.new)
         (replacement_in format run.now)) }
+    ensures most { looks.new.accepting_looks ≤ looks.old.accepting_looks + 61 * (length run.now + 1) }
+    ensures prints { PrintsLinear format 1 (length run.now) looks.old.printing_looks
+        looks.new.printing_looks }
 {
-    write_read_at_once(&Demangle::read_run(run), run, output, format)
+    let symbol = Demangle::read_run_counted(run, &mut looks.accepting_looks);
+    symbol.write_read_at_once(run, output, format, &mut looks.printing_looks)
 }
 
-/// Writes the replacement of a run: the printed symbol, with a write for each piece, or the run itself
-/// if it is not a symbol. Fails if the writer fails.
-pub(super) fn write_run<W: Write>(run: &str, output: &mut W, format: Format) -> io::Result<()>
+/// Writes the replacement of a run: the printed symbol, with a write for each piece, or the run
+/// itself if it is not a symbol. Counts its looks. Fails if the writer fails.
+pub(super) fn write_run<W: Write>(
+    run: &str,
+    output: &mut W,
+    format: Format,
+    looks: &mut RunLooks,
+) -> io::Result<()>
     requires { list_all is_run_byte run.now ≡ true }
-    ensures { OnOk result (Appends (W.contents output.old) (W.contents output.new)
+    ensures text { OnOk result (Appends (W.contents output.old) (W.contents output.new)
         (replacement_in format run.now)) }
+    ensures most { looks.new.accepting_looks ≤ looks.old.accepting_looks + 61 * (length run.now + 1) }
+    ensures prints { PrintsLinear format 1 (length run.now) looks.old.printing_looks
+        looks.new.printing_looks }
 {
-    let symbol = Demangle::read_run(run);
+    let symbol = Demangle::read_run_counted(run, &mut looks.accepting_looks);
     if symbol.has_style() {
-        write_symbol(&symbol, output, format)
+        write_symbol(&symbol, output, format, &mut looks.printing_looks)
     } else {
         write_text(run, output)
     }

@@ -3,18 +3,19 @@ ghost use Rattle.std.specs.Prelude.{◌≡◌, ◌+◌, ◌*◌, ◌<◌, ◌≤
 ghost use Rattle.std.specs.List.{concat, list_all};
 ghost use Rattle.std.specs.Io.KnownBytes.{Appends};
 ghost use Rattle.rustc_demangle.specs.Filtered.{is_run_byte, replacement_in};
+ghost use Rattle.rustc_demangle.specs.LinearLooks.{LooksLinear, PrintsLinear};
 ghost use Rattle.rustc_demangle.specs.Stripped.{stripped};
-ghost use Rattle.rustc_demangle.specs.Symbols.{handed_in, unfolded};
+ghost use Rattle.rustc_demangle.specs.Symbols.{PrintingLooksIn, bounded_within, handed_in};
 ghost use Rattle.rustc_demangle.specs.Tried.{IsRunRead};
 ghost use Rattle.text_memo.specs.Memo.{Remembers, IsSmall};
 
-use crate::format::Format;
+use crate::format::{Format, SizeLimit, unfolded_form};
 use crate::stream::buffer_sink::BufferSink;
 use crate::stream::credit::{Credit, starts_as_v0};
-use crate::stream::line_writer::{write_read_at_once, write_run, write_run_at_once};
+use crate::stream::line_writer::{write_run, write_run_at_once};
 use crate::value::Demangle;
 use crate::value::printing::{Tried, print_legacy_run, print_v0_run};
-use demangle_symbol::cursor::Looks;
+use demangle_symbol::cursor::{Looks, RunLooks};
 use piece_buffer::PieceBuffer;
 use std::alloc::Global;
 use std::io;
@@ -32,8 +33,8 @@ const MAX_MISSES: u32 = 4096;
 /// The number of runs for which a memo stays off.
 const PAUSE: u32 = 32_768;
 
-/// The most bytes of a run that is printed before it is known to be a symbol. Of the symbols that are
-/// longer, many have so many references that they are validated in any case.
+/// The most bytes of a run that is printed before it is known to be a symbol. Of the symbols that
+/// are longer, many have so many references that they are validated in any case.
 const MOST_PRINTED: usize = 384;
 
 /// The same if arguments are folded. Then no reference in them is followed.
@@ -91,6 +92,7 @@ struct Store {
 /// itself off for a while if few symbols repeat.
 #[derive(Drop)]
 pub struct SymbolMemo {
+    alloc: Global,
     format: Format,
     store: Store,
     probe: Probe,
@@ -110,37 +112,49 @@ impl Model for SymbolMemo {
 }
 
 /// Prints a symbol into an empty buffer, or returns `false` if the buffer has no room for it.
-fn print_to_buffer(symbol: &Demangle<'_>, held: &mut PieceBuffer, format: Format) -> bool
+/// Counts its looks.
+fn print_to_buffer(
+    symbol: &Demangle<'_>,
+    held: &mut PieceBuffer,
+    format: Format,
+    looks: &mut Looks,
+) -> bool
     requires { held.old ≡ [] }
-    ensures { IsTrue result → held.new ≡ concat (handed_in symbol.now format) }
+    ensures text { IsTrue result → held.new ≡ concat (handed_in symbol.now format) }
+    ensures looks { PrintingLooksIn symbol.now format looks.old looks.new }
 {
     let mut sink = BufferSink::new(held);
-    symbol.write_formatted(&mut sink, format).is_ok()
+    symbol
+        .write_formatted_counted(&mut sink, format, looks)
+        .is_ok()
 }
 
-/// Prints a run into the buffer before it is known to be a symbol, and counts the looks up to that.
-/// Returns what is known of it then. Unless it was printed, the buffer may have a part of it.
+/// Prints a run into the buffer before it is known to be a symbol, and counts its looks. Returns
+/// what is known of it then. Unless it was printed, the buffer may have a part of it.
 #[inline(always)]
 fn print_first<'a>(
     run: &'a str,
     held: &mut PieceBuffer,
     format: Format,
-    looks: &mut Looks,
+    looks: &mut RunLooks,
 ) -> Tried<'a>
     requires run { list_all is_run_byte run.now ≡ true }
     requires some { 1 < length run.now }
     ensures printed { result ≡ Tried.Printed → held.new ≡ replacement_in format run.now }
     ensures read { IsRunRead run.now result }
-    ensures grows { looks.old ≤ looks.new }
-    ensures most { looks.new ≤ looks.old + 143 * (length run.now + 1) }
-    ensures early { result ≡ Tried.Unknown → looks.new ≤ looks.old + 85 * (length run.now + 1) + 8 }
+    ensures grows { looks.old.accepting_looks ≤ looks.new.accepting_looks }
+    ensures most { looks.new.accepting_looks ≤ looks.old.accepting_looks + 143 * (length run.now + 1) }
+    ensures early { result ≡ Tried.Unknown → looks.new.accepting_looks
+        ≤ looks.old.accepting_looks + 85 * (length run.now + 1) + 8 }
+    ensures prints { PrintsLinear format 1 (length run.now) looks.old.printing_looks
+        looks.new.printing_looks }
 {
     held.clear();
     let mut sink = BufferSink::new(held);
     if starts_as_v0(run.as_bytes()) {
         return print_v0_run(run, &mut sink, format, looks);
     }
-    if print_legacy_run(run, &mut sink, format, looks) {
+    if print_legacy_run(run, &mut sink, format, &mut looks.accepting_looks) {
         Tried::Printed
     } else {
         Tried::Unknown
@@ -176,22 +190,25 @@ fn is_looked_up(run: &[u8]) -> bool
 
 impl Store {
     /// Prints a run into the buffer if it is not too long and runs are printed first. Otherwise it
-    /// reads the run. Counts the looks that decide whether it is a symbol: their bound is linear in
-    /// its length. Returns what the run was read as, or `None` if it was printed.
+    /// reads the run. Counts its looks: the bound of those that decide whether it is a symbol is
+    /// linear in its length. Returns what the run was read as, or `None` if it was printed.
     #[inline(always)]
     fn print_or_read<'a>(
         &mut self,
         run: &'a str,
         format: Format,
-        looks: &mut Looks,
+        looks: &mut RunLooks,
     ) -> Option<Demangle<'a>>
         requires run { list_all is_run_byte run.now ≡ true }
         requires some { 1 < length run.now }
         ensures printed { IfNone result (self.new.printed ≡ replacement_in format run.now) }
         ensures read { IfSome result (λ symbol. symbol ≡ stripped run.now) }
         ensures texts { self.new.texts ≡ self.old.texts }
-        ensures grows { looks.old ≤ looks.new }
-        ensures most { looks.new ≤ looks.old + 152 * (length run.now + 1) }
+        ensures grows { looks.old.accepting_looks ≤ looks.new.accepting_looks }
+        ensures most { looks.new.accepting_looks
+            ≤ looks.old.accepting_looks + 152 * (length run.now + 1) }
+        ensures prints { PrintsLinear format 1 (length run.now) looks.old.printing_looks
+            looks.new.printing_looks }
     {
         let most = if format.form.fold_arguments {
             MOST_FOLDED
@@ -199,7 +216,7 @@ impl Store {
             MOST_PRINTED
         };
         if run.len() > most || !self.credit.is_given() {
-            let symbol = Demangle::read_run_counted(run, looks);
+            let symbol = Demangle::read_run_counted(run, &mut looks.accepting_looks);
             if symbol.has_style() {
                 self.credit.gain();
             }
@@ -208,15 +225,67 @@ impl Store {
         let symbol = match print_first(run, &mut self.printed, format, looks) {
             Tried::Printed => return None,
             Tried::Read(symbol) => symbol,
-            Tried::Unknown => Demangle::read_run_counted(run, looks),
+            Tried::Unknown => Demangle::read_run_counted(run, &mut looks.accepting_looks),
         };
         self.credit.lose(run);
         Some(symbol)
     }
 
-    /// Prints a run that was read, and remembers its text, or that it is too long.
-    fn print_read(&mut self, symbol: &Demangle<'_>, run: &str, hash: u64, format: Format) -> Printed
+    /// Prints into the buffer a run that was read, and counts the looks of printing.
+    fn print_read(
+        &mut self,
+        symbol: &Demangle<'_>,
+        run: &str,
+        format: Format,
+        looks: &mut Looks,
+    ) -> Printed
         requires read { symbol.now ≡ stripped run.now }
+        ensures symbol { result ≡ Printed.Symbol →
+            self.new.printed ≡ replacement_in format run.now }
+        ensures no_symbol { result ≡ Printed.NoSymbol →
+            run.now ≡ replacement_in format run.now }
+        ensures texts { self.new.texts ≡ self.old.texts }
+        ensures prints { PrintsLinear format 1 (length run.now) looks.old looks.new }
+    {
+        if !symbol.has_style() {
+            return Printed::NoSymbol;
+        }
+        self.printed.clear();
+        if print_to_buffer(symbol, &mut self.printed, format, looks) {
+            Printed::Symbol
+        } else {
+            Printed::TooLong
+        }
+    }
+
+    /// Prints a run into the buffer. Counts its looks: the bound of those that decide whether it is a
+    /// symbol is linear in its length.
+    #[inline(always)]
+    fn print_run(&mut self, run: &str, format: Format, looks: &mut RunLooks) -> Printed
+        requires run { list_all is_run_byte run.now ≡ true }
+        requires some { 1 < length run.now }
+        ensures symbol { result ≡ Printed.Symbol →
+            self.new.printed ≡ replacement_in format run.now }
+        ensures no_symbol { result ≡ Printed.NoSymbol →
+            run.now ≡ replacement_in format run.now }
+        ensures texts { self.new.texts ≡ self.old.texts }
+        ensures grows { looks.old.accepting_looks ≤ looks.new.accepting_looks }
+        ensures most { looks.new.accepting_looks
+            ≤ looks.old.accepting_looks + 152 * (length run.now + 1) }
+        ensures prints { PrintsLinear format 2 (length run.now) looks.old.printing_looks
+            looks.new.printing_looks }
+    {
+        match self.print_or_read(run, format, looks) {
+            Some(symbol) => self.print_read(&symbol, run, format, &mut looks.printing_looks),
+            None => Printed::Symbol,
+        }
+    }
+
+    /// Prints a run as `print_run` does, and remembers its text, or that it is too long.
+    #[inline(never)]
+    fn print_new(&mut self, run: &str, hash: u64, format: Format, looks: &mut RunLooks) -> Printed
+        requires run { list_all is_run_byte run.now ≡ true }
+        requires some { 1 < length run.now }
         requires remembers { Remembers (replacement_in format) self.old.texts }
         ensures symbol { result ≡ Printed.Symbol →
             self.new.printed ≡ replacement_in format run.now }
@@ -224,55 +293,31 @@ impl Store {
             run.now ≡ replacement_in format run.now }
         ensures remembers { Remembers (replacement_in format) self.new.texts }
         ensures small { IsSmall self.old.texts → IsSmall self.new.texts }
+        ensures grows { looks.old.accepting_looks ≤ looks.new.accepting_looks }
+        ensures most { looks.new.accepting_looks
+            ≤ looks.old.accepting_looks + 152 * (length run.now + 1) }
+        ensures prints { PrintsLinear format 2 (length run.now) looks.old.printing_looks
+            looks.new.printing_looks }
     {
-        if !symbol.has_style() {
-            let kept = run.as_bytes();
-            self.texts.insert(kept, kept, hash);
-            return Printed::NoSymbol;
+        let printed = self.print_run(run, format, looks);
+        let key = run.as_bytes();
+        match printed {
+            Printed::Symbol => self.texts.insert(key, self.printed.as_slice(), hash),
+            Printed::NoSymbol => self.texts.insert(key, key, hash),
+            Printed::TooLong => self.texts.note_too_long(hash),
         }
-        self.printed.clear();
-        if !print_to_buffer(symbol, &mut self.printed, format) {
-            self.texts.note_too_long(hash);
-            return Printed::TooLong;
-        }
-        self.texts
-            .insert(run.as_bytes(), self.printed.as_slice(), hash);
-        Printed::Symbol
+        printed
     }
-}
-
-/// Prints a run, and remembers its text, or that it is too long. Counts the looks that decide
-/// whether it is a symbol: their bound is linear in its length.
-#[inline(never)]
-fn print_new(run: &str, hash: u64, format: Format, store: &mut Store, looks: &mut Looks) -> Printed
-    requires run { list_all is_run_byte run.now ≡ true }
-    requires some { 1 < length run.now }
-    requires remembers { Remembers (replacement_in format) store.old.texts }
-    ensures symbol { result ≡ Printed.Symbol →
-        store.new.printed ≡ replacement_in format run.now }
-    ensures no_symbol { result ≡ Printed.NoSymbol →
-        run.now ≡ replacement_in format run.now }
-    ensures remembers { Remembers (replacement_in format) store.new.texts }
-    ensures small { IsSmall store.old.texts → IsSmall store.new.texts }
-    ensures grows { looks.old ≤ looks.new }
-    ensures most { looks.new ≤ looks.old + 152 * (length run.now + 1) }
-{
-    if let Some(symbol) = store.print_or_read(run, format, looks) {
-        return store.print_read(&symbol, run, hash, format);
-    }
-    store
-        .texts
-        .insert(run.as_bytes(), store.printed.as_slice(), hash);
-    Printed::Symbol
 }
 
 impl SymbolMemo {
     /// Returns a memo of symbols that are printed with or without the hash, each cut at `limit`
-    /// bytes before its suffix.
+    /// bytes before its suffix. Its limit of the bytes that are read again is linear.
     pub fn new(alloc: Global, include_hash: bool, limit: usize) -> Self
-        ensures { result ≡ unfolded include_hash limit }
+        ensures { result ≡ bounded_within include_hash limit }
     {
-        let format = Format::unfolded(include_hash, limit);
+        let limit = SizeLimit::Bytes(limit);
+        let format = Format::bounded(unfolded_form(include_hash), limit);
         SymbolMemo::with_format(alloc, format)
     }
 
@@ -281,6 +326,7 @@ impl SymbolMemo {
         ensures { result ≡ format }
     {
         SymbolMemo {
+            alloc,
             format,
             store: Store {
                 texts: TextMemo::new(alloc),
@@ -294,6 +340,18 @@ impl SymbolMemo {
         }
     }
 
+    /// Returns the format in which symbols are printed.
+    pub fn format(&self) -> Format
+        ensures { result ≡ self.now }
+    {
+        self.format
+    }
+
+    /// Returns the allocator of the memo.
+    pub(super) fn allocator(&self) -> Global {
+        self.alloc
+    }
+
     /// Returns the number of bytes of memory that the memo has allocated, which is at most 4.5 MB.
     pub fn allocated(&self) -> usize
         ensures { result ≤ 4_500_000 }
@@ -301,59 +359,75 @@ impl SymbolMemo {
         self.store.texts.allocated()
     }
 
-    /// Writes the text of a run that is not remembered. Counts the looks that decide whether it is
-    /// a symbol: their bound is linear in its length. Fails if the writer fails.
+    /// Writes the text of a run that is not remembered. Counts its looks: the bound of those that
+    /// decide whether it is a symbol is linear in its length. Fails if the writer fails.
     #[inline(always)]
     fn write_once<W: Write>(
         &mut self,
         run: &str,
         output: &mut W,
-        looks: &mut Looks,
+        looks: &mut RunLooks,
     ) -> io::Result<()>
         requires all { list_all is_run_byte run.now ≡ true }
         requires some { 1 < length run.now }
         ensures text { OnOk result (Appends (W.contents output.old) (W.contents output.new)
             (replacement_in self.old run.now)) }
         ensures same { self.new ≡ self.old }
-        ensures grows { looks.old ≤ looks.new }
-        ensures most { looks.new ≤ looks.old + 152 * (length run.now + 1) }
+        ensures grows { looks.old.accepting_looks ≤ looks.new.accepting_looks }
+        ensures most { looks.new.accepting_looks
+            ≤ looks.old.accepting_looks + 152 * (length run.now + 1) }
+        ensures prints { PrintsLinear self.old 2 (length run.now) looks.old.printing_looks
+            looks.new.printing_looks }
     {
         match self.store.print_or_read(run, self.format, looks) {
-            Some(symbol) => write_read_at_once(&symbol, run, output, self.format),
+            Some(symbol) => {
+                symbol.write_read_at_once(run, output, self.format, &mut looks.printing_looks)
+            }
             None => output.write_all(self.store.printed.as_slice()),
         }
     }
 
-    /// Writes the text of a run that is not in the memo. The text is remembered if the run came
-    /// before. Fails if the writer fails.
+    /// Writes the text of a run that is not in the memo, and counts its looks. The text is
+    /// remembered if the run came before. Fails if the writer fails.
     #[inline(always)]
-    fn write_new<W: Write>(&mut self, run: &str, hash: u64, output: &mut W) -> io::Result<()>
+    fn write_new<W: Write>(
+        &mut self,
+        run: &str,
+        hash: u64,
+        output: &mut W,
+        looks: &mut RunLooks,
+    ) -> io::Result<()>
         requires all { list_all is_run_byte run.now ≡ true }
         requires some { 1 < length run.now }
         ensures text { OnOk result (Appends (W.contents output.old) (W.contents output.new)
             (replacement_in self.old run.now)) }
         ensures same { self.new ≡ self.old }
+        ensures most { looks.new.accepting_looks
+            ≤ looks.old.accepting_looks + 213 * (length run.now + 1) }
+        ensures prints { PrintsLinear self.old 3 (length run.now) looks.old.printing_looks
+            looks.new.printing_looks }
     {
         match self.store.texts.note(hash) {
             Noted::Again => {}
-            Noted::New => return self.write_once(run, output, &mut Looks::new()),
-            Noted::TooLong => return write_run_at_once(run, output, self.format),
+            Noted::New => return self.write_once(run, output, looks),
+            Noted::TooLong => return write_run_at_once(run, output, self.format, looks),
         }
-        let mut looks = Looks::new();
-        match print_new(run, hash, self.format, &mut self.store, &mut looks) {
+        match self.store.print_new(run, hash, self.format, looks) {
             Printed::Symbol => output.write_all(self.store.printed.as_slice()),
             Printed::NoSymbol => output.write_all(run.as_bytes()),
-            Printed::TooLong => write_run_at_once(run, output, self.format),
+            Printed::TooLong => write_run_at_once(run, output, self.format, looks),
         }
     }
 
     /// Writes the replacement of a run: the printed symbol, or the run itself if it is not a
-    /// symbol. Compares the run with at most two others. Fails if the writer fails.
+    /// symbol. Compares the run with at most two others, and counts its looks. Fails if the writer
+    /// fails.
     pub(super) fn write_run<W: Write>(
         &mut self,
         run: &str,
         output: &mut W,
         comparisons: &mut Comparisons,
+        looks: &mut RunLooks,
     ) -> io::Result<()>
         requires all { list_all is_run_byte run.now ≡ true }
         requires some { 0 < length run.now }
@@ -361,12 +435,13 @@ impl SymbolMemo {
             (replacement_in self.old run.now)) }
         ensures same { self.new ≡ self.old }
         ensures compared { comparisons.new ≤ comparisons.old + 2 }
+        ensures linear { LooksLinear self.old (length run.now) looks.old looks.new }
     {
         if !is_looked_up(run.as_bytes()) {
-            return write_run(run, output, self.format);
+            return write_run(run, output, self.format, looks);
         }
         if !self.probe.is_on() {
-            return self.write_once(run, output, &mut Looks::new());
+            return self.write_once(run, output, looks);
         }
         let hash = hash_of(run.as_bytes());
         if let Some(text) = self.store.texts.get(run.as_bytes(), hash, comparisons) {
@@ -374,6 +449,6 @@ impl SymbolMemo {
             return output.write_all(text);
         }
         self.probe.miss();
-        self.write_new(run, hash, output)
+        self.write_new(run, hash, output, looks)
     }
 }

@@ -4,6 +4,7 @@ ghost use Rattle.std.specs.Prelude.{◌≡◌, ◌∷◌, ◌++◌, ◌+◌, ◌
 ghost use Rattle.std.specs.List.{list_all};
 ghost use Rattle.std.specs.Io.KnownBytes.{Appends};
 ghost use Rattle.rustc_demangle.specs.Filtered.{is_run_byte, starts_run};
+ghost use Rattle.rustc_demangle.specs.LinearLooks.{LooksLinear, LooksPaid};
 ghost use Rattle.rustc_demangle.specs.Rewritten.{before_after, starts_candidate, replacement_after, rewritten_after};
 ghost use Rattle.rustc_demangle.specs.ByteStream.{unwritten, SplitsNoCandidate, IsPartialRun, IsPartialCandidate, FilteredChunkPrefix, IsWriting, ChunkFailed};
 
@@ -11,6 +12,7 @@ use crate::byte_before::ByteBefore;
 use crate::runs::{run_len, run_start, run_text};
 use crate::stream::fault::StreamFault;
 use crate::stream::memo::SymbolMemo;
+use demangle_symbol::cursor::RunLooks;
 use std::alloc::Allocator;
 use std::io::Write;
 use text_memo::Comparisons;
@@ -38,55 +40,32 @@ fn write_unchanged<W: Write>(bytes: &[u8], output: &mut W) -> Result<(), StreamF
     }
 }
 
-/// Writes the replacement of a candidate. Fails if the writer fails.
-#[inline(always)]
-fn write_candidate<W: Write>(
-    candidate: &[u8],
-    before: ByteBefore,
-    output: &mut W,
-    memo: &mut SymbolMemo,
-) -> Result<(), StreamFault>
-    requires all { list_all is_run_byte candidate.now ≡ true }
-    requires some { 0 < length candidate.now }
-    ensures ok { OnOk result (Appends (W.contents output.old) (W.contents output.new)
-        (replacement_after memo.old before candidate.now)) }
-    ensures named { IfErr result IsWriting }
-    ensures same { memo.new ≡ memo.old }
-{
-    if before.is_alphanumeric() {
-        return write_unchanged(candidate, output);
+impl SymbolMemo {
+    /// Writes the replacement of a candidate, and counts its looks. Fails if the writer fails.
+    #[inline(always)]
+    fn write_candidate<W: Write>(
+        &mut self,
+        candidate: &[u8],
+        before: ByteBefore,
+        output: &mut W,
+        looks: &mut RunLooks,
+    ) -> Result<(), StreamFault>
+        requires all { list_all is_run_byte candidate.now ≡ true }
+        requires some { 0 < length candidate.now }
+        ensures ok { OnOk result (Appends (W.contents output.old) (W.contents output.new)
+            (replacement_after self.old before candidate.now)) }
+        ensures named { IfErr result IsWriting }
+        ensures same { self.new ≡ self.old }
+        ensures linear { LooksLinear self.old (length candidate.now) looks.old looks.new }
+    {
+        if before.is_alphanumeric() {
+            return write_unchanged(candidate, output);
+        }
+        match self.write_run(run_text(candidate), output, &mut Comparisons::new(), looks) {
+            Ok(()) => Ok(()),
+            Err(error) => Err(StreamFault::Write(error)),
+        }
     }
-    match memo.write_run(run_text(candidate), output, &mut Comparisons::new()) {
-        Ok(()) => Ok(()),
-        Err(error) => Err(StreamFault::Write(error)),
-    }
-}
-
-/// Writes the filtered form of the pending text, which is complete. Clears the text, even if the
-/// writer fails.
-pub(super) fn finish<W: Write, A: Allocator>(
-    pending: &mut Pending<A>,
-    output: &mut W,
-    memo: &mut SymbolMemo,
-) -> Result<(), StreamFault>
-    requires { IsPartialCandidate (unwritten pending.old.before pending.old.bytes.items) }
-    ensures ok { OnOk result (Appends (W.contents output.old) (W.contents output.new)
-        (rewritten_after memo.old pending.old.before pending.old.bytes.items)) }
-    ensures named { IfErr result IsWriting }
-    ensures none { pending.new.bytes.items ≡ [] }
-    ensures last { pending.new.before ≡ before_after pending.old.before pending.old.bytes.items }
-    ensures same { memo.new ≡ memo.old }
-{
-    let before = pending.before;
-    let text = pending.bytes.as_slice();
-    let written = if before.starts_candidate(text) {
-        write_candidate(text, before, output, memo)
-    } else {
-        write_unchanged(text, output)
-    };
-    pending.before = before.after(text);
-    pending.bytes.clear();
-    written
 }
 
 /// Appends bytes to the pending text. Fails if memory can't be allocated, and then leaves it
@@ -138,158 +117,210 @@ fn extends_prefix(before: ByteBefore, pending: &[u8], byte: u8) -> bool
     }
 }
 
-/// Appends one byte to pending bytes that are no candidate and returns 1, if they may still start
-/// one. Otherwise writes the pending bytes as plain text and returns 0. Fails if the writer fails
-/// or memory can't be allocated.
-fn extend_prefix<W: Write, A: Allocator>(
-    pending: &mut Pending<A>,
-    available: &[u8],
-    output: &mut W,
-    memo: &mut SymbolMemo,
-) -> Result<usize, StreamFault>
-    requires some { 0 < length available.now }
-    requires partial { IsPartialCandidate (unwritten pending.old.before pending.old.bytes.items) }
-    requires begun { 0 < length pending.old.bytes.items }
-    requires none { starts_candidate pending.old.before pending.old.bytes.items ≡ false }
-    ensures bound { IfOk result (λ n. n ≤ length available.now) }
-    ensures pending { IsPartialCandidate (unwritten pending.new.before pending.new.bytes.items) }
-    ensures less { IfOk result (λ n.
-        length pending.new.bytes.items < length pending.old.bytes.items + 2 * n) }
-    ensures ok { IfOk result (λ n. FilteredChunkPrefix (rewritten_after memo.old)
-        (unwritten pending.old.before pending.old.bytes.items) available.now
-        (unwritten pending.new.before pending.new.bytes.items) n
-        (W.contents output.old) (W.contents output.new)) }
-    ensures err { IfErr result (λ fault. ChunkFailed fault
-        (unwritten pending.old.before pending.old.bytes.items)
-        (unwritten pending.new.before pending.new.bytes.items)
-        (W.contents output.old) (W.contents output.new)) }
-    ensures same { memo.new ≡ memo.old }
-{
-    if extends_prefix(pending.before, pending.bytes.as_slice(), available[0]) {
-        buffer_bytes(&mut pending.bytes, &available[..1])?;
-        return Ok(1);
+impl<A: Allocator> Pending<A> {
+    /// Writes the filtered form of the pending text, which is complete. Clears the text, even if
+    /// the writer fails.
+    pub(super) fn finish<W: Write>(
+        &mut self,
+        output: &mut W,
+        memo: &mut SymbolMemo,
+        looks: &mut RunLooks,
+    ) -> Result<(), StreamFault>
+        requires { IsPartialCandidate (unwritten self.old.before self.old.bytes.items) }
+        ensures ok { OnOk result (Appends (W.contents output.old) (W.contents output.new)
+            (rewritten_after memo.old self.old.before self.old.bytes.items)) }
+        ensures named { IfErr result IsWriting }
+        ensures none { self.new.bytes.items ≡ [] }
+        ensures last { self.new.before ≡ before_after self.old.before self.old.bytes.items }
+        ensures same { memo.new ≡ memo.old }
+        ensures linear { LooksLinear memo.old (length self.old.bytes.items) looks.old looks.new }
+    {
+        let before = self.before;
+        let text = self.bytes.as_slice();
+        let written = if before.starts_candidate(text) {
+            memo.write_candidate(text, before, output, looks)
+        } else {
+            write_unchanged(text, output)
+        };
+        self.before = before.after(text);
+        self.bytes.clear();
+        written
     }
-    finish(pending, output, memo)?;
-    Ok(0)
-}
 
-/// Appends the bytes that continue the pending candidate, and returns their number. Writes the
-/// candidate's replacement if it ends before the chunk does. Fails if the writer fails or memory
-/// can't be allocated.
-fn extend_candidate<W: Write, A: Allocator>(
-    pending: &mut Pending<A>,
-    available: &[u8],
-    output: &mut W,
-    memo: &mut SymbolMemo,
-) -> Result<usize, StreamFault>
-    requires some { 0 < length available.now }
-    requires begun { starts_candidate pending.old.before pending.old.bytes.items ≡ true }
-    requires all { list_all is_run_byte pending.old.bytes.items ≡ true }
-    ensures bound { IfOk result (λ n. n ≤ length available.now) }
-    ensures pending { IsPartialCandidate (unwritten pending.new.before pending.new.bytes.items) }
-    ensures less { IfOk result (λ n.
-        length pending.new.bytes.items < length pending.old.bytes.items + 2 * n) }
-    ensures ok { IfOk result (λ n. FilteredChunkPrefix (rewritten_after memo.old)
-        (unwritten pending.old.before pending.old.bytes.items) available.now
-        (unwritten pending.new.before pending.new.bytes.items) n
-        (W.contents output.old) (W.contents output.new)) }
-    ensures err { IfErr result (λ fault. ChunkFailed fault
-        (unwritten pending.old.before pending.old.bytes.items)
-        (unwritten pending.new.before pending.new.bytes.items)
-        (W.contents output.old) (W.contents output.new)) }
-    ensures same { memo.new ≡ memo.old }
-{
-    let len = run_len(available);
-    buffer_bytes(&mut pending.bytes, &available[..len])?;
-    if len < available.len() {
-        finish(pending, output, memo)?;
+    /// Appends one byte to pending bytes that are no candidate and returns 1, if they may still
+    /// start one. Otherwise writes the pending bytes as plain text and returns 0. Fails if the
+    /// writer fails or memory can't be allocated.
+    fn extend_prefix<W: Write>(
+        &mut self,
+        available: &[u8],
+        output: &mut W,
+        memo: &mut SymbolMemo,
+        looks: &mut RunLooks,
+    ) -> Result<usize, StreamFault>
+        requires some { 0 < length available.now }
+        requires partial { IsPartialCandidate (unwritten self.old.before self.old.bytes.items) }
+        requires begun { 0 < length self.old.bytes.items }
+        requires none { starts_candidate self.old.before self.old.bytes.items ≡ false }
+        ensures bound { IfOk result (λ n. n ≤ length available.now) }
+        ensures pending { IsPartialCandidate (unwritten self.new.before self.new.bytes.items) }
+        ensures less { IfOk result (λ n.
+            length self.new.bytes.items < length self.old.bytes.items + 2 * n) }
+        ensures ok { IfOk result (λ n. FilteredChunkPrefix (rewritten_after memo.old)
+            (unwritten self.old.before self.old.bytes.items) available.now
+            (unwritten self.new.before self.new.bytes.items) n
+            (W.contents output.old) (W.contents output.new)) }
+        ensures err { IfErr result (λ fault. ChunkFailed fault
+            (unwritten self.old.before self.old.bytes.items)
+            (unwritten self.new.before self.new.bytes.items)
+            (W.contents output.old) (W.contents output.new)) }
+        ensures same { memo.new ≡ memo.old }
+        ensures paid { IfOk result (λ n. LooksPaid memo.old (length self.old.bytes.items + n)
+            (length self.new.bytes.items) looks.old looks.new) }
+        ensures lost { LooksLinear memo.old (length self.old.bytes.items + length available.now) looks.old
+            looks.new }
+    {
+        if extends_prefix(self.before, self.bytes.as_slice(), available[0]) {
+            buffer_bytes(&mut self.bytes, &available[..1])?;
+            return Ok(1);
+        }
+        self.finish(output, memo, looks)?;
+        Ok(0)
     }
-    Ok(len)
-}
 
-/// Filters a chunk when nothing is pending, and returns how many bytes it used.
-///
-/// Writes everything up to the end of the first candidate. If the chunk ends inside a candidate, or
-/// may end with the start of one, that part becomes pending. The text before it is written. Fails
-/// if the writer fails or memory can't be allocated.
-fn filter_text<W: Write, A: Allocator>(
-    pending: &mut Pending<A>,
-    available: &[u8],
-    output: &mut W,
-    memo: &mut SymbolMemo,
-) -> Result<usize, StreamFault>
-    requires some { 0 < length available.now }
-    requires none { pending.old.bytes.items ≡ [] }
-    ensures bound { IfOk result (λ n. n ≤ length available.now) }
-    ensures pending { IsPartialCandidate (unwritten pending.new.before pending.new.bytes.items) }
-    ensures less { IfOk result (λ n.
-        length pending.new.bytes.items < length pending.old.bytes.items + 2 * n) }
-    ensures ok { IfOk result (λ n. FilteredChunkPrefix (rewritten_after memo.old)
-        (unwritten pending.old.before pending.old.bytes.items) available.now
-        (unwritten pending.new.before pending.new.bytes.items) n
-        (W.contents output.old) (W.contents output.new)) }
-    ensures err { IfErr result (λ fault. ChunkFailed fault
-        (unwritten pending.old.before pending.old.bytes.items)
-        (unwritten pending.new.before pending.new.bytes.items)
-        (W.contents output.old) (W.contents output.new)) }
-    ensures same { memo.new ≡ memo.old }
-{
-    let before = pending.before;
-    let Some(start) = run_start(available) else {
-        let place = available.len() - partial_prefix_len(available);
-        let (kept, beginning) = available.split_at(before.plain_len(&available[..place]));
-        // Buffered before anything is written. If memory can't be allocated, the caller can repeat
-        // the step.
-        buffer_bytes(&mut pending.bytes, beginning)?;
-        pending.before = before.after(kept);
+    /// Appends the bytes that continue the pending candidate, and returns their number. Writes the
+    /// candidate's replacement if it ends before the chunk does. Fails if the writer fails or
+    /// memory can't be allocated.
+    fn extend_candidate<W: Write>(
+        &mut self,
+        available: &[u8],
+        output: &mut W,
+        memo: &mut SymbolMemo,
+        looks: &mut RunLooks,
+    ) -> Result<usize, StreamFault>
+        requires some { 0 < length available.now }
+        requires begun { starts_candidate self.old.before self.old.bytes.items ≡ true }
+        requires all { list_all is_run_byte self.old.bytes.items ≡ true }
+        ensures bound { IfOk result (λ n. n ≤ length available.now) }
+        ensures pending { IsPartialCandidate (unwritten self.new.before self.new.bytes.items) }
+        ensures less { IfOk result (λ n.
+            length self.new.bytes.items < length self.old.bytes.items + 2 * n) }
+        ensures ok { IfOk result (λ n. FilteredChunkPrefix (rewritten_after memo.old)
+            (unwritten self.old.before self.old.bytes.items) available.now
+            (unwritten self.new.before self.new.bytes.items) n
+            (W.contents output.old) (W.contents output.new)) }
+        ensures err { IfErr result (λ fault. ChunkFailed fault
+            (unwritten self.old.before self.old.bytes.items)
+            (unwritten self.new.before self.new.bytes.items)
+            (W.contents output.old) (W.contents output.new)) }
+        ensures same { memo.new ≡ memo.old }
+        ensures paid { IfOk result (λ n. LooksPaid memo.old (length self.old.bytes.items + n)
+            (length self.new.bytes.items) looks.old looks.new) }
+        ensures lost { LooksLinear memo.old (length self.old.bytes.items + length available.now) looks.old
+            looks.new }
+    {
+        let len = run_len(available);
+        buffer_bytes(&mut self.bytes, &available[..len])?;
+        if len < available.len() {
+            self.finish(output, memo, looks)?;
+        }
+        Ok(len)
+    }
+
+    /// Filters a chunk when nothing is pending, and returns how many bytes it used.
+    ///
+    /// Writes everything up to the end of the first candidate. If the chunk ends inside a
+    /// candidate, or may end with the start of one, that part becomes pending. The text before it
+    /// is written. Fails if the writer fails or memory can't be allocated.
+    fn filter_text<W: Write>(
+        &mut self,
+        available: &[u8],
+        output: &mut W,
+        memo: &mut SymbolMemo,
+        looks: &mut RunLooks,
+    ) -> Result<usize, StreamFault>
+        requires some { 0 < length available.now }
+        requires none { self.old.bytes.items ≡ [] }
+        ensures bound { IfOk result (λ n. n ≤ length available.now) }
+        ensures pending { IsPartialCandidate (unwritten self.new.before self.new.bytes.items) }
+        ensures less { IfOk result (λ n.
+            length self.new.bytes.items < length self.old.bytes.items + 2 * n) }
+        ensures ok { IfOk result (λ n. FilteredChunkPrefix (rewritten_after memo.old)
+            (unwritten self.old.before self.old.bytes.items) available.now
+            (unwritten self.new.before self.new.bytes.items) n
+            (W.contents output.old) (W.contents output.new)) }
+        ensures err { IfErr result (λ fault. ChunkFailed fault
+            (unwritten self.old.before self.old.bytes.items)
+            (unwritten self.new.before self.new.bytes.items)
+            (W.contents output.old) (W.contents output.new)) }
+        ensures same { memo.new ≡ memo.old }
+        ensures paid { IfOk result (λ n. LooksPaid memo.old (length self.old.bytes.items + n)
+            (length self.new.bytes.items) looks.old looks.new) }
+        ensures lost { LooksLinear memo.old (length self.old.bytes.items + length available.now) looks.old
+            looks.new }
+    {
+        let before = self.before;
+        let Some(start) = run_start(available) else {
+            let place = available.len() - partial_prefix_len(available);
+            let (kept, beginning) = available.split_at(before.plain_len(&available[..place]));
+            // Buffered before anything is written. If memory can't be allocated, the caller can
+            // repeat the step.
+            buffer_bytes(&mut self.bytes, beginning)?;
+            self.before = before.after(kept);
+            write_unchanged(kept, output)?;
+            return Ok(available.len());
+        };
+        let (kept, found) = available.split_at(before.plain_len(&available[..start]));
+        let len = run_len(found);
+        let before_found = before.after(kept);
+        if len == found.len() {
+            buffer_bytes(&mut self.bytes, found)?;
+            self.before = before_found;
+            write_unchanged(kept, output)?;
+            return Ok(available.len());
+        }
         write_unchanged(kept, output)?;
-        return Ok(available.len());
-    };
-    let (kept, found) = available.split_at(before.plain_len(&available[..start]));
-    let len = run_len(found);
-    let before_found = before.after(kept);
-    if len == found.len() {
-        buffer_bytes(&mut pending.bytes, found)?;
-        pending.before = before_found;
-        write_unchanged(kept, output)?;
-        return Ok(available.len());
+        let candidate = &found[..len];
+        memo.write_candidate(candidate, before_found, output, looks)?;
+        self.before = before_found.after(candidate);
+        Ok(kept.len() + len)
     }
-    write_unchanged(kept, output)?;
-    let candidate = &found[..len];
-    write_candidate(candidate, before_found, output, memo)?;
-    pending.before = before_found.after(candidate);
-    Ok(kept.len() + len)
-}
 
-/// Filters a prefix of the available bytes, and returns its length. Writes all that is certain; an
-/// unfinished candidate stays pending. Fails if the writer fails or memory can't be allocated.
-pub(super) fn filter_chunk<W: Write, A: Allocator>(
-    pending: &mut Pending<A>,
-    available: &[u8],
-    output: &mut W,
-    memo: &mut SymbolMemo,
-) -> Result<usize, StreamFault>
-    requires some { 0 < length available.now }
-    requires pending { IsPartialCandidate (unwritten pending.old.before pending.old.bytes.items) }
-    ensures bound { IfOk result (λ n. n ≤ length available.now) }
-    ensures pending { IsPartialCandidate (unwritten pending.new.before pending.new.bytes.items) }
-    ensures less { IfOk result (λ n.
-        length pending.new.bytes.items < length pending.old.bytes.items + 2 * n) }
-    ensures ok { IfOk result (λ n. FilteredChunkPrefix (rewritten_after memo.old)
-        (unwritten pending.old.before pending.old.bytes.items) available.now
-        (unwritten pending.new.before pending.new.bytes.items) n
-        (W.contents output.old) (W.contents output.new)) }
-    ensures err { IfErr result (λ fault. ChunkFailed fault
-        (unwritten pending.old.before pending.old.bytes.items)
-        (unwritten pending.new.before pending.new.bytes.items)
-        (W.contents output.old) (W.contents output.new)) }
-    ensures same { memo.new ≡ memo.old }
-{
-    if pending.bytes.is_empty() {
-        return filter_text(pending, available, output, memo);
+    /// Filters a prefix of the available bytes, and returns its length. Writes all that is certain;
+    /// an unfinished candidate stays pending. Fails if the writer fails or memory can't be
+    /// allocated.
+    pub(super) fn filter_chunk<W: Write>(
+        &mut self,
+        available: &[u8],
+        output: &mut W,
+        memo: &mut SymbolMemo,
+        looks: &mut RunLooks,
+    ) -> Result<usize, StreamFault>
+        requires some { 0 < length available.now }
+        requires pending { IsPartialCandidate (unwritten self.old.before self.old.bytes.items) }
+        ensures bound { IfOk result (λ n. n ≤ length available.now) }
+        ensures pending { IsPartialCandidate (unwritten self.new.before self.new.bytes.items) }
+        ensures less { IfOk result (λ n.
+            length self.new.bytes.items < length self.old.bytes.items + 2 * n) }
+        ensures ok { IfOk result (λ n. FilteredChunkPrefix (rewritten_after memo.old)
+            (unwritten self.old.before self.old.bytes.items) available.now
+            (unwritten self.new.before self.new.bytes.items) n
+            (W.contents output.old) (W.contents output.new)) }
+        ensures err { IfErr result (λ fault. ChunkFailed fault
+            (unwritten self.old.before self.old.bytes.items)
+            (unwritten self.new.before self.new.bytes.items)
+            (W.contents output.old) (W.contents output.new)) }
+        ensures same { memo.new ≡ memo.old }
+        ensures paid { IfOk result (λ n. LooksPaid memo.old (length self.old.bytes.items + n)
+            (length self.new.bytes.items) looks.old looks.new) }
+        ensures lost { LooksLinear memo.old (length self.old.bytes.items + length available.now) looks.old
+            looks.new }
+    {
+        if self.bytes.is_empty() {
+            return self.filter_text(available, output, memo, looks);
+        }
+        if self.before.starts_candidate(self.bytes.as_slice()) {
+            return self.extend_candidate(available, output, memo, looks);
+        }
+        self.extend_prefix(available, output, memo, looks)
     }
-    if pending.before.starts_candidate(pending.bytes.as_slice()) {
-        return extend_candidate(pending, available, output, memo);
-    }
-    extend_prefix(pending, available, output, memo)
 }

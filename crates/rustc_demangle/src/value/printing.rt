@@ -4,39 +4,42 @@ ghost use Rattle.std.specs.List.{list_all};
 ghost use Rattle.demangle_sink.specs.Cut.{cut};
 ghost use Rattle.demangle_sink.specs.PutsPieces.{PutsPieces};
 ghost use Rattle.rustc_demangle.specs.Filtered.{is_run_byte, replacement_in};
+ghost use Rattle.rustc_demangle.specs.LinearLooks.{PrintsLinear};
 ghost use Rattle.rustc_demangle.specs.PathEnds.{handed_with_path_len};
+ghost use Rattle.rustc_demangle.specs.Shape.{limited};
 ghost use Rattle.rustc_demangle.specs.Stripped.{stripped};
 ghost use Rattle.rustc_demangle.specs.Style.{style_pieces, style_len, style_looks, style_looks_again, style_least};
 ghost use Rattle.rustc_demangle.specs.Tried.{IsRunRead};
-ghost use Rattle.rustc_demangle.specs.Symbols.{folded, form_of, handed, handed_in, most_bytes, PrintingLooks, PrintingLooksIn};
+ghost use Rattle.rustc_demangle.specs.Limits.{most_bytes};
+ghost use Rattle.rustc_demangle.specs.Symbols.{folded, handed, handed_in, PrintingLooks, PrintingLooksIn};
 ghost use Rattle.demangle_sink.specs.Writes.{Writes};
 
-use crate::format::Format;
+use crate::format::{Format, MAX_SIZE, TextFormat};
 use crate::strip::without_thin_lto;
-use crate::value::{Demangle, DemangleStyle, MAX_SIZE, is_allowed};
+use crate::value::{Demangle, DemangleStyle, is_allowed};
 use demangle_sink::{SinkRefused, SizeLimitedFmtAdapter, TextSink, put_piece};
-use demangle_symbol::cursor::Looks;
+use demangle_symbol::cursor::{Looks, RunLooks};
 use demangle_v0::Printed;
 
 /// Prints a symbol without its suffix into a sink, cut at the limit. Fails if the sink fails.
 fn write_cut<S: TextSink>(
     style: &DemangleStyle<'_>,
     out: &mut S,
-    format: Format,
+    format: TextFormat,
     looks: &mut Looks,
 ) -> Result<(), SinkRefused>
     requires { S.failed out.old ≡ false }
     ensures hands { PutsPieces S.TextSink out.old
-        (cut (style_pieces (form_of format) style.now) format.limit) result out.new }
+        (cut (style_pieces (limited format) style.now) format.limit) result out.new }
     ensures grows { looks.old ≤ looks.new }
     ensures most { looks.new ≤ looks.old
-        + style_looks (form_of format) format.limit style.now }
-    ensures again { looks.new ≤ looks.old + style_looks_again (form_of format) style.now }
-    ensures few { IfSome format.references (λ k. looks.new ≤ looks.old
-        + 20 * (style_len style.now + 1) * (k + 1)) }
+        + style_looks (limited format) format.limit style.now }
+    ensures again { looks.new ≤ looks.old + style_looks_again (limited format) style.now }
+    ensures few { IfSome format.reread (λ k. looks.new ≤ looks.old
+        + 20 * (style_len style.now + 1 + k)) }
     ensures least { looks.old + style_least style.now ≤ looks.new }
 {
-    let mut limited = SizeLimitedFmtAdapter::with_references(out, format.limit, format.references);
+    let mut limited = SizeLimitedFmtAdapter::with_reread(out, format.limit, format.reread);
     let result = style.write_to(&mut limited, format, looks);
     // Printing stops in the same way at the limit and if the sink fails. Only a sink that has not
     // failed gets the marker.
@@ -63,7 +66,7 @@ impl Demangle<'_> {
         let Some(style) = &self.style else {
             return put_piece(self.original, out);
         };
-        write_cut(style, out, format, looks)?;
+        write_cut(style, out, format.for_text(self.original.len()), looks)?;
         put_piece(self.suffix, out)
     }
 
@@ -220,7 +223,7 @@ const MOST_TEXT: usize = 1600;
 
 /// Returns the most bytes of the path of a run that is printed at once.
 #[inline(always)]
-fn text_limit(run: &str, format: Format) -> usize
+fn text_limit(run: &str, format: TextFormat) -> usize
     ensures { result ≤ format.limit }
 {
     let most = run
@@ -243,8 +246,7 @@ pub(crate) enum Tried<'a> {
 }
 
 /// Prints a v0 run before it is known to be a symbol, as `demangle_v0::demangle_printed` does, and
-/// counts the looks up to the end of its validation. A run is ASCII. Returns what is known of it
-/// then.
+/// counts its looks. A run is ASCII. Returns what is known of it then.
 ///
 /// Nothing is known of a path that is much longer than the run.
 #[inline(never)]
@@ -252,23 +254,27 @@ pub(crate) fn print_v0_run<'a, S: TextSink>(
     run: &'a str,
     out: &mut S,
     format: Format,
-    looks: &mut Looks,
+    looks: &mut RunLooks,
 ) -> Tried<'a>
     requires run { list_all is_run_byte run.now ≡ true }
     requires not_failed { S.failed out.old ≡ false }
     ensures took { result ≡ Tried.Printed →
         S.took out.old (replacement_in format run.now) out.new }
     ensures read { IsRunRead run.now result }
-    ensures grows { looks.old ≤ looks.new }
-    ensures most { looks.new ≤ looks.old + 143 * (length run.now + 1) }
-    ensures early { result ≡ Tried.Unknown → looks.new ≤ looks.old + 85 * (length run.now + 1) + 8 }
+    ensures grows { looks.old.accepting_looks ≤ looks.new.accepting_looks }
+    ensures most { looks.new.accepting_looks ≤ looks.old.accepting_looks + 143 * (length run.now + 1) }
+    ensures early { result ≡ Tried.Unknown → looks.new.accepting_looks
+        ≤ looks.old.accepting_looks + 85 * (length run.now + 1) + 8 }
+    ensures prints { PrintsLinear format 1 (length run.now) looks.old.printing_looks
+        looks.new.printing_looks }
 {
     let text = without_thin_lto(run);
-    let limit = text_limit(run, format);
-    let mut limited = SizeLimitedFmtAdapter::with_references(out, limit, format.references);
-    match demangle_v0::demangle_printed(text, &mut limited, format.form, looks) {
+    let limits = format.for_text(text.len());
+    let limit = text_limit(run, limits);
+    let mut limited = SizeLimitedFmtAdapter::with_reread(out, limit, limits.reread);
+    match demangle_v0::demangle_printed(text, &mut limited, limits.form, looks) {
         Printed::Symbol(symbol, suffix) => {
-            let allowed = is_allowed(suffix, looks);
+            let allowed = is_allowed(suffix, &mut looks.accepting_looks);
             if allowed && put_piece(suffix, out).is_ok() {
                 return Tried::Printed;
             }
@@ -276,14 +282,18 @@ pub(crate) fn print_v0_run<'a, S: TextSink>(
             Tried::Read(Demangle::with_style(text, style, suffix, allowed))
         }
         Printed::Part(symbol, suffix) => {
-            let allowed = is_allowed(suffix, looks);
+            let allowed = is_allowed(suffix, &mut looks.accepting_looks);
             let style = DemangleStyle::V0(symbol);
             Tried::Read(Demangle::with_style(text, style, suffix, allowed))
         }
         // A text with the prefix of v0 has not that of the legacy scheme, so this ends at once.
-        Printed::NoSymbol => match demangle_legacy::demangle(text, true, looks) {
+        Printed::NoSymbol => match demangle_legacy::demangle(
+            text,
+            true,
+            &mut looks.accepting_looks,
+        ) {
             Ok((symbol, suffix)) => {
-                let allowed = is_allowed(suffix, looks);
+                let allowed = is_allowed(suffix, &mut looks.accepting_looks);
                 let style = DemangleStyle::Legacy(symbol);
                 Tried::Read(Demangle::with_style(text, style, suffix, allowed))
             }
@@ -313,8 +323,9 @@ pub(crate) fn print_legacy_run<S: TextSink>(
     ensures most { looks.new ≤ looks.old + 18 * (length run.now + 1) }
 {
     let text = without_thin_lto(run);
-    let mut limited = SizeLimitedFmtAdapter::new(out, format.limit);
-    let read = demangle_legacy::demangle_printed(text, &mut limited, format.form, looks);
+    let limits = format.for_text(text.len());
+    let mut limited = SizeLimitedFmtAdapter::new(out, limits.limit);
+    let read = demangle_legacy::demangle_printed(text, &mut limited, limits.form, looks);
     let Some((_, suffix)) = read else {
         return false;
     };
@@ -343,7 +354,7 @@ fn write_pieces_with_path_len<S: TextSink>(
     // The caller may pass any number.
     let suffix = &text[path_len.min(text.len())..];
     let style = DemangleStyle::V0(symbol);
-    write_cut(&style, out, format, &mut looks)?;
+    write_cut(&style, out, format.for_text(text.len()), &mut looks)?;
     put_piece(suffix, out)
 }
 

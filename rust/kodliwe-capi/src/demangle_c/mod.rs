@@ -8,8 +8,8 @@ mod version;
 
 use crate::demangle_c::version::VERSION;
 use crate::demangle_c_string::{
-    MAX_SIZE, put_nul, symbol_of, text_of, write_part, write_part_formatted, write_text,
-    write_text_formatted,
+    MAX_SIZE, put_nul, symbol_of, text_of, write_folded_text, write_part, write_part_formatted,
+    write_text,
 };
 use kodliwe::internal::rustc_demangle::sink::{SliceSink, TextSink};
 use kodliwe::internal::rustc_demangle::{Format, write_with_path_len};
@@ -145,18 +145,22 @@ pub fn kodliwe_demangle_text_folded(
     include_hash: bool,
     limit: usize,
 ) -> usize {
-    let format = Format::folded(include_hash, limit);
-    write_text_formatted(text, out, format)
+    write_folded_text(text, out, include_hash, limit)
 }
 
 /// Writes bytes to memory with each Rust symbol replaced by its path, and a 0 after them. Returns
 /// the number of bytes of that text and the 0.
 ///
 /// A candidate symbol starts at `_ZN` or `_R`. It ends before the next byte that is not an ASCII
-/// letter, a digit, `$`, `.` or `_`. Its path is cut as by `kodliwe_demangle_limited`. It stays
-/// directly after an ASCII letter or digit. A path also replaces a single `_` before its symbol, if
-/// that `_` is the first byte or follows a byte that no symbol may have. All other bytes stay
-/// unchanged.
+/// letter, a digit, `$`, `.` or `_`. It stays directly after an ASCII letter or digit. A path also
+/// replaces a single `_` before its symbol, if that `_` is the first byte or follows a byte that no
+/// symbol may have. All other bytes stay unchanged.
+///
+/// Each path is cut at `limit` bytes, and at 1,000,000 at most. If `limit` is `usize::MAX`, none is
+/// given: then a symbol of n bytes is cut at 999 n - 20 bytes, and at 1,000,000 at most, so that the
+/// text has at most 1,000 bytes for each of its own. A path is also cut where the references of its
+/// symbol would make a print read more than 384 bytes again for each of its own, or more than
+/// 384,000,000. The marker `{size limit reached}` and the suffix follow a cut path.
 ///
 /// The result does not depend on the size of the memory. The memory receives as much of the text as
 /// fits before a 0, and no byte after the 0 is changed. The result is `usize::MAX` if the number is

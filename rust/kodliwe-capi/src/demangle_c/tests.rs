@@ -275,6 +275,18 @@ fn the_limit_of_a_text_is_each_symbols() {
 }
 
 #[test]
+fn a_text_without_a_limit_has_1_000_bytes_for_each() {
+    let text = b"_RMC0FG15FTGf_Eu";
+    let mut out = [9; 1];
+    let most = 1_000 * text.len() + 1;
+    let linear = kodliwe_demangle_text(text, &mut out, false, usize::MAX);
+    assert!(linear <= most);
+    let folded = kodliwe_demangle_text_folded(text, &mut out, false, usize::MAX);
+    assert!(folded <= most);
+    assert!(kodliwe_demangle_text(text, &mut out, false, 1_000_000) > most);
+}
+
+#[test]
 fn an_empty_text_is_a_nul() {
     let mut out = [9; 2];
     assert_eq!(kodliwe_demangle_text(b"", &mut out, true, 1000), 1);

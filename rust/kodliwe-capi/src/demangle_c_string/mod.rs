@@ -4,7 +4,9 @@
 
 use core::str;
 use kodliwe::internal::rustc_demangle::sink::SliceSink;
-use kodliwe::internal::rustc_demangle::{Demangle, Format, demangle_slice_formatted, try_demangle};
+use kodliwe::internal::rustc_demangle::{
+    Demangle, Form, Format, SizeLimit, demangle_slice_formatted, try_demangle,
+};
 
 /// The most bytes that are printed for a symbol, without the marker and the suffix.
 pub const MAX_SIZE: usize = 1_000_000;
@@ -21,6 +23,15 @@ pub fn text_of(bytes: &[u8]) -> Option<&str> {
 /// are not a symbol. A symbol may be legacy or v0 (Rust RFC 2603).
 pub fn symbol_of(bytes: &[u8]) -> Option<Demangle<'_>> {
     try_demangle(text_of(bytes)?).ok()
+}
+
+/// Returns the format with a limit of at most `MAX_SIZE` bytes.
+fn capped(format: Format) -> Format {
+    let limit = match format.limit {
+        SizeLimit::Bytes(limit) => SizeLimit::Bytes(limit.min(MAX_SIZE)),
+        SizeLimit::Linear => SizeLimit::Linear,
+    };
+    Format { limit, ..format }
 }
 
 /// Writes a path from its byte `start` to memory, as far as the memory reaches. Returns the number
@@ -66,35 +77,58 @@ pub fn write_part_formatted(symbol: &[u8], out: &mut [u8], format: Format, start
     let Some(demangled) = symbol_of(symbol) else {
         return 0;
     };
-    let most = format.limit.min(MAX_SIZE);
-    let capped = Format {
-        limit: most,
-        ..format
-    };
-    let len = write_path(&demangled, out, capped, start);
+    let len = write_path(&demangled, out, capped(format), start);
     put_nul(out, len.saturating_sub(start));
     len + 1
+}
+
+/// Returns the limit of the paths of a text. `usize::MAX` says that the caller gives none, so the
+/// limit is linear in the length of each symbol. Any other number is the limit, and `MAX_SIZE` at
+/// most.
+fn text_limit(limit: usize) -> SizeLimit {
+    if limit == usize::MAX {
+        SizeLimit::Linear
+    } else {
+        SizeLimit::Bytes(limit.min(MAX_SIZE))
+    }
+}
+
+/// Writes a text as `write_text` does, with the paths in a form, and returns the same number.
+fn write_text_in(text: &[u8], out: &mut [u8], form: Form, limit: usize) -> usize {
+    let format = Format::bounded(form, text_limit(limit));
+    let Some(len) = demangle_slice_formatted(text, out, format) else {
+        return usize::MAX;
+    };
+    put_nul(out, len);
+    len.saturating_add(1)
 }
 
 /// Writes bytes to memory with each Rust symbol replaced by its path, and a 0 after them. Returns
 /// the number of bytes of that text and the 0.
 ///
-/// Each path is cut as by `write_part`. The result does not depend on the size of the memory. The
-/// memory receives as much of the text as fits before a 0, and no byte after the 0 is changed. The
-/// result is `usize::MAX` if the number is not smaller than that. The contents of the memory are
-/// then unspecified. The call does not allocate.
+/// Each path is cut at `limit` bytes, and at `MAX_SIZE` at most. If `limit` is `usize::MAX`, none is
+/// given: then a symbol of n bytes is cut at 999 n - 20 bytes, and at `MAX_SIZE` at most. A path is
+/// also cut where the references of its symbol would make a print read more than 384 bytes again for
+/// each of its own, or more than 384,000,000.
+///
+/// The result does not depend on the size of the memory. The memory receives as much of the text as
+/// fits before a 0, and no byte after the 0 is changed. The result is `usize::MAX` if the number is
+/// not smaller than that. The contents of the memory are then unspecified. The call does not
+/// allocate.
 pub fn write_text(text: &[u8], out: &mut [u8], include_hash: bool, limit: usize) -> usize {
-    let format = Format::unfolded(include_hash, limit);
-    write_text_formatted(text, out, format)
+    let form = Form {
+        include_hash,
+        fold_arguments: false,
+    };
+    write_text_in(text, out, form, limit)
 }
 
-/// Writes a text as `write_text` does, with each symbol printed in a format, and returns the same
-/// number. A limit of the format above `MAX_SIZE` counts as `MAX_SIZE`.
-pub fn write_text_formatted(text: &[u8], out: &mut [u8], format: Format) -> usize {
-    let limit = format.limit.min(MAX_SIZE);
-    let Some(len) = demangle_slice_formatted(text, out, Format { limit, ..format }) else {
-        return usize::MAX;
+/// Writes a text as `write_text` does, with `_` for each list of generic arguments, and returns the
+/// same number.
+pub fn write_folded_text(text: &[u8], out: &mut [u8], include_hash: bool, limit: usize) -> usize {
+    let form = Form {
+        include_hash,
+        fold_arguments: true,
     };
-    put_nul(out, len);
-    len.saturating_add(1)
+    write_text_in(text, out, form, limit)
 }

@@ -190,10 +190,15 @@ Only v0 symbols are folded: the arguments of a legacy symbol are parts of names.
 .TP
 .BR \\-l \", \" \\-\\-limit =\\fIBYTES\\fR
 Cut each path at
-.I BYTES
-instead of 1,000,000.
-The time for a symbol that is made to be costly grows with its length and with
-this limit.
+.IR BYTES .
+Without this option, the path of a symbol of n bytes is cut at 999 n \\- 20
+bytes, and at 1,000,000 at most.
+So the output has at most 1,000 bytes for each byte of the input, and the time
+grows with the input alone.
+With this option, both may also grow with
+.IR BYTES .
+With it or without it, a path is also cut where the references of its symbol
+would have more than 384 n bytes, or more than 384,000,000, read again.
 .TP
 .B \\-\\-man
 Print this page.
@@ -251,9 +256,12 @@ Or
 is given twice, or an argument is not UTF-8.
 Nothing was read.
 .SH LIMITS
-The path of a symbol is cut at 1,000,000 bytes, or at those of
-.BR \\-\\-limit ,
-and
+The path of a symbol of n bytes is cut at 999 n \\- 20 bytes, and at 1,000,000 at
+most, or at those of
+.BR \\-\\-limit .
+It is also cut where the references of the symbol would have more than 384 n
+bytes, or more than 384,000,000, read again.
+Then
 .B {size limit reached}
 follows it.
 Back references in a v0 symbol are followed up to 500 levels.

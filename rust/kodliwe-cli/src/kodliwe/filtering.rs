@@ -8,7 +8,7 @@ use crate::support::io::BufReader;
 use crate::support::vec::Vec;
 use kodliwe::internal::demangle_sink::WriteSink;
 use kodliwe::internal::rustc_demangle::{
-    BytesFilter, Demangle, Format, StreamFault, SymbolMemo, demangle_bytes_formatted, try_demangle,
+    BytesFilter, Demangle, Format, StreamFault, SymbolMemo, demangle_bytes_counted, try_demangle,
 };
 use std::io;
 use std::io::{BufRead, ErrorKind, Read, Write};
@@ -36,6 +36,10 @@ pub enum Part<'a, R> {
     Text(Input<'a, R>),
     /// A SYMBOL argument.
     Argument(&'a str),
+}
+
+struct Symbols {
+    memo: SymbolMemo,
 }
 
 /// How filtering ended.
@@ -92,9 +96,9 @@ fn step<R: BufRead, W: Write, A: Allocator>(
     filter: &mut BytesFilter<A>,
     input: &mut R,
     output: &mut W,
-    memo: &mut SymbolMemo,
+    symbols: &mut Symbols,
 ) -> Result<bool, StreamFault> {
-    match filter.step(input, output, memo) {
+    match filter.step(input, output, &mut symbols.memo) {
         Err(StreamFault::Read(error)) if error.kind() == ErrorKind::Interrupted => Ok(true),
         stepped => stepped,
     }
@@ -106,10 +110,10 @@ fn flush_then_step<R: Read, W: Write, A: Allocator, B: Allocator>(
     filter: &mut BytesFilter<A>,
     input: &mut BufReader<R, B>,
     output: &mut W,
-    memo: &mut SymbolMemo,
+    symbols: &mut Symbols,
 ) -> Result<bool, StreamFault> {
     flush_pending(input, output)?;
-    step(filter, input, output, memo)
+    step(filter, input, output, symbols)
 }
 
 /// Filters the remaining input of a reader. The output is flushed before each read. Fails if the
@@ -118,10 +122,10 @@ fn filter_steps<R: Read, W: Write, A: Allocator, B: Allocator>(
     filter: &mut BytesFilter<A>,
     input: &mut BufReader<R, B>,
     output: &mut W,
-    memo: &mut SymbolMemo,
+    symbols: &mut Symbols,
 ) -> Result<(), StreamFault> {
     for _ in 0..=u64::MAX {
-        if !flush_then_step(filter, input, output, memo)? {
+        if !flush_then_step(filter, input, output, symbols)? {
             return Ok(());
         }
     }
@@ -133,13 +137,13 @@ fn filter_reader<R: Read, W: Write>(
     alloc: Global,
     reader: R,
     output: &mut W,
-    memo: &mut SymbolMemo,
+    symbols: &mut Symbols,
 ) -> Result<(), StreamFault> {
     let Ok(mut input) = BufReader::with_capacity(alloc, BUFFER, reader) else {
         return Err(StreamFault::Memory);
     };
     let mut filter = BytesFilter::new(alloc);
-    filter_steps(&mut filter, &mut input, output, memo)
+    filter_steps(&mut filter, &mut input, output, symbols)
 }
 
 /// Writes a symbol, with a separate write for each piece. Fails if the writer fails.
@@ -160,26 +164,29 @@ fn write_symbol<W: Write>(
 /// Writes an argument as `argument_in` defines, without a line feed. Fails if the writer fails or
 /// memory can't be allocated.
 fn write_argument<W: Write>(
-    settings: Settings,
     argument: &str,
     output: &mut W,
+    symbols: &mut Symbols,
 ) -> Result<(), StreamFault> {
     match try_demangle(argument) {
-        Ok(symbol) => write_symbol(&symbol, output, settings.format),
+        Ok(symbol) => {
+            let format = symbols.memo.format();
+            write_symbol(&symbol, output, format)
+        }
         Err(_) => {
             let mut text = argument.as_bytes();
-            demangle_bytes_formatted(settings.alloc, &mut text, output, settings.format)
+            demangle_bytes_counted(&mut text, output, &mut symbols.memo)
         }
     }
 }
 
 /// Writes an argument and a line feed. Fails as `write_argument` does.
 fn write_line<W: Write>(
-    settings: Settings,
     argument: &str,
     output: &mut W,
+    symbols: &mut Symbols,
 ) -> Result<(), StreamFault> {
-    write_argument(settings, argument, output)?;
+    write_argument(argument, output, symbols)?;
     match output.write_all(b"\n") {
         Ok(()) => Ok(()),
         Err(error) => Err(StreamFault::Write(error)),
@@ -194,22 +201,27 @@ impl<'a, R: Read> Part<'a, R> {
         settings: Settings,
         output: &mut W,
         errors: &mut E,
-        memo: &mut SymbolMemo,
+        symbols: &mut Symbols,
     ) -> Result<(), InputError<'a>> {
         match self {
             Part::Text(Input { name, reader }) => {
                 let noting = NotingReader::new(settings.alloc, name, reader, errors);
-                match filter_reader(settings.alloc, noting, output, memo) {
+                match filter_reader(settings.alloc, noting, output, symbols) {
                     Ok(()) => Ok(()),
                     Err(fault) => Err(InputError { name, fault }),
                 }
             }
-            Part::Argument(argument) => match write_line(settings, argument, output) {
+            Part::Argument(argument) => match write_line(argument, output, symbols) {
                 Ok(()) => Ok(()),
                 Err(fault) => Err(InputError { name: "", fault }),
             },
         }
     }
+}
+
+/// What writing parts led to.
+struct Written<'a> {
+    result: Result<(), InputError<'a>>,
 }
 
 /// Writes what each part prints, in order and with one memo, and then flushes the output. Stops at
@@ -219,14 +231,20 @@ fn write_parts<'a, R: Read, W: Write, E: Write>(
     parts: Vec<Part<'a, R>>,
     output: &mut W,
     errors: &mut E,
-) -> Result<(), InputError<'a>> {
-    let mut memo = SymbolMemo::with_format(settings.alloc, settings.format);
+) -> Written<'a> {
+    let mut symbols = Symbols {
+        memo: SymbolMemo::with_format(settings.alloc, settings.format),
+    };
     for part in parts {
-        part.write(settings, output, errors, &mut memo)?;
+        if let Err(stop) = part.write(settings, output, errors, &mut symbols) {
+            return Written { result: Err(stop) };
+        }
     }
     match flush(output) {
-        Ok(()) => Ok(()),
-        Err(fault) => Err(InputError { name: "", fault }),
+        Ok(()) => Written { result: Ok(()) },
+        Err(fault) => Written {
+            result: Err(InputError { name: "", fault }),
+        },
     }
 }
 
@@ -244,8 +262,14 @@ fn outcome_of(fault: &StreamFault) -> FilterOutcome {
     }
 }
 
+/// What a run of the filter did.
+#[derive(Clone, Copy)]
+pub struct FilterRun {
+    pub outcome: FilterOutcome,
+}
+
 /// Writes what the parts print, in order: each text filtered on its own, and each argument as a
-/// line. Each path is cut at the limit. Writes a line if an input can't be read, the output can't
+/// line. Each path is cut at the limits. Writes a line if an input can't be read, the output can't
 /// be written, or memory can't be allocated. Writes a note on each input that is compressed or
 /// encoded.
 ///
@@ -253,21 +277,38 @@ fn outcome_of(fault: &StreamFault) -> FilterOutcome {
 /// parts before one print, and a filtered prefix of that one. The prefix is not cut inside a
 /// symbol. Nothing is known of the bytes that a writer accepted in a call that failed. All that was
 /// written before is flushed in any case. An error of `errors` is ignored.
+///
+/// With a linear limit of bytes, the parts print at most 1,000 bytes for each of their own, of which
+/// each argument has a line feed.
+pub fn filter_all_counted<R: Read, W: Write, E: Write>(
+    settings: Settings,
+    parts: Vec<Part<'_, R>>,
+    output: &mut W,
+    errors: &mut E,
+) -> FilterRun {
+    let written = write_parts(settings, parts, output, errors);
+
+    let Err(stop) = written.result else {
+        return FilterRun {
+            outcome: FilterOutcome::Complete,
+        };
+    };
+    let outcome = outcome_of(&stop.fault);
+    if outcome == FilterOutcome::ReadFailed {
+        let _ = flush(output);
+    }
+    if outcome != FilterOutcome::Closed {
+        report(settings.alloc, errors, &stop);
+    }
+    FilterRun { outcome }
+}
+
+/// Writes what the parts print, as `filter_all_counted` does.
 pub fn filter_all<R: Read, W: Write, E: Write>(
     settings: Settings,
     parts: Vec<Part<'_, R>>,
     output: &mut W,
     errors: &mut E,
 ) -> FilterOutcome {
-    let Err(stop) = write_parts(settings, parts, output, errors) else {
-        return FilterOutcome::Complete;
-    };
-    let ended = outcome_of(&stop.fault);
-    if ended == FilterOutcome::ReadFailed {
-        let _ = flush(output);
-    }
-    if ended != FilterOutcome::Closed {
-        report(settings.alloc, errors, &stop);
-    }
-    ended
+    filter_all_counted(settings, parts, output, errors).outcome
 }

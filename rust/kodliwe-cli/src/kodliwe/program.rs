@@ -22,7 +22,7 @@ use crate::support::alloc::{AllocError, Global};
 use crate::support::fs::Files;
 use crate::support::io::{IsTerminal, Stdin};
 use crate::support::os::fd::AsFd;
-use kodliwe::internal::rustc_demangle::{Form, Format};
+use kodliwe::internal::rustc_demangle::{Form, Format, SizeLimit};
 use std::io;
 use std::io::{ErrorKind, Write};
 
@@ -141,6 +141,14 @@ fn add_default(sources: &mut Vec<InputSource<'_>>) -> Result<(), AllocError> {
     Ok(())
 }
 
+/// Returns the limit of the paths, from the value of `-l`, if it was given.
+fn size_limit(limit: Option<usize>) -> SizeLimit {
+    match limit {
+        Some(limit) => SizeLimit::Bytes(limit),
+        None => SizeLimit::Linear,
+    }
+}
+
 /// Returns the settings that the arguments request.
 fn settings_of(alloc: Global, request: &Request<'_>) -> Settings {
     let form = Form {
@@ -149,11 +157,7 @@ fn settings_of(alloc: Global, request: &Request<'_>) -> Settings {
     };
     Settings {
         alloc,
-        format: Format {
-            form,
-            limit: request.limit,
-            references: None,
-        },
+        format: Format::bounded(form, size_limit(request.limit)),
     }
 }
 

@@ -419,7 +419,7 @@ fn assert_request(
     alloc: Global,
     arguments: &[&str],
     output: Option<Target<'_>>,
-    limit: usize,
+    limit: Option<usize>,
 ) -> Result<(), Fail> {
     let owned = owned_arguments(alloc, arguments)?;
     match parse_arguments(alloc, owned.as_slice()) {
@@ -447,15 +447,20 @@ fn the_argument_after_an_option_is_its_value() -> Result<(), Fail> {
         (&["--hash", "-o-V"], "-V"),
     ];
     for (arguments, path) in outputs {
-        assert_request(alloc, arguments, Some(Target::File(path)), 1_000_000)?;
+        assert_request(alloc, arguments, Some(Target::File(path)), None)?;
     }
     assert_request(
         alloc,
         &["--output==x", "--limit=10", "--hash"],
         Some(Target::File("=x")),
-        10,
+        Some(10),
     )?;
-    assert_request(alloc, &["-l", "+7", "--hash", "--", "-o", "-l"], None, 7)?;
+    assert_request(
+        alloc,
+        &["-l", "+7", "--hash", "--", "-o", "-l"],
+        None,
+        Some(7),
+    )?;
     let cases: [Case<'_>; 5] = [
         (
             &["-i", "--", "_ZN1aE"],

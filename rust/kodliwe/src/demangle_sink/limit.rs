@@ -1,15 +1,32 @@
 // Made from crates/demangle_sink/src/limit.rt by packaging/crate/erase.py: edit that file instead.
-//! Limits the size of the printed text, and the references that are followed for it.
+//! Limits the size of the printed text, and the bytes that are read again for it.
 
 use crate::demangle_sink::{SinkRefused, TextSink};
+
+/// How many bytes may be read again for references at most, if their number is limited, and how many
+/// of them are used.
+#[derive(Clone, Copy)]
+pub struct Reread {
+    pub most: Option<usize>,
+    pub used: usize,
+}
+
+/// Returns one more than the sum of two numbers, or `None` if that is more than `most`.
+#[cfg_attr(not(debug_assertions), inline(always))]
+fn sum_within(one: usize, other: usize, most: usize) -> Option<usize> {
+    if other >= most || one >= most - other {
+        return None;
+    }
+    Some(one + other + 1)
+}
 
 /// Passes pieces to a sink while their total size is within a limit.
 pub struct SizeLimitedFmtAdapter<'s, S: TextSink> {
     out: &'s mut S,
     /// How many more bytes may be passed to the sink.
     remaining: usize,
-    /// How many more references may be followed, if their number is limited.
-    references: Option<usize>,
+    /// How many bytes may be read again.
+    reread: Reread,
     /// Whether a piece or a reference exceeded its limit.
     is_limit_reached: bool,
 }
@@ -18,36 +35,47 @@ impl<'s, S: TextSink> SizeLimitedFmtAdapter<'s, S> {
     /// Returns an adapter that passes at most `limit` bytes to `out`.
     #[cfg(feature = "stream")]
     pub fn new(out: &'s mut S, limit: usize) -> Self {
-        SizeLimitedFmtAdapter::with_references(out, limit, None)
+        SizeLimitedFmtAdapter::with_reread(out, limit, None)
     }
 
-    /// Returns an adapter that passes at most `limit` bytes to `out`, for which at most `references`
-    /// references are followed, if that is a number.
-    pub fn with_references(out: &'s mut S, limit: usize, references: Option<usize>) -> Self {
+    /// Returns an adapter that passes at most `limit` bytes to `out`, for which at most `reread`
+    /// bytes are read again, if that is a number.
+    pub fn with_reread(out: &'s mut S, limit: usize, reread: Option<usize>) -> Self {
         SizeLimitedFmtAdapter {
             out,
             remaining: limit,
-            references,
+            reread: Reread {
+                most: reread,
+                used: 0,
+            },
             is_limit_reached: false,
         }
     }
 
-    /// Counts a reference that is followed.
+    /// Counts the bytes that a reference may make the parser read again, and one more.
     ///
     /// # Errors
     ///
-    /// Returns `SinkRefused` if as many were followed as are allowed.
+    /// Returns `SinkRefused` if fewer are left.
     #[cfg_attr(not(debug_assertions), inline(always))]
-    pub fn follow(&mut self) -> Result<(), SinkRefused> {
-        let Some(left) = self.references else {
+    pub fn follow(&mut self, bytes: usize) -> Result<(), SinkRefused> {
+        let Some(most) = self.reread.most else {
             return Ok(());
         };
-        if left == 0 {
+        let Some(used) = sum_within(self.reread.used, bytes, most) else {
             self.is_limit_reached = true;
             return Err(SinkRefused);
-        }
-        self.references = Some(left - 1);
+        };
+        self.reread.used = used;
         Ok(())
+    }
+
+    /// Gives back these bytes, which were not read, and one more. Gives back none for `None`.
+    #[cfg_attr(not(debug_assertions), inline(always))]
+    pub fn give_back(&mut self, bytes: Option<usize>) {
+        if let Some(bytes) = bytes {
+            self.reread.used = self.reread.used.saturating_sub(bytes).saturating_sub(1);
+        }
     }
 
     /// Returns `true` if a piece or a reference exceeded its limit.

@@ -28,14 +28,14 @@ impl Parser<'_, '_> {
                 self.continuation = continuation;
                 return Ok(Some(Unfinished::Printing));
             }
-            let Some(at) = self.resume(0, continuation) else {
+            let Some(next) = self.resume(0, continuation) else {
                 self.continuation = Continuation::End;
                 return Ok(None);
             };
             // An impl path only identifies the impl, and arguments may be folded. They are read and
             // not printed.
-            if is_skipped(at, self.source.form) {
-                self.continuation = at;
+            if is_skipped(next, self.source.form) {
+                self.continuation = next;
                 if !self.may_skip(has_budget) {
                     return Ok(Some(Unfinished::Printing));
                 }
@@ -44,7 +44,7 @@ impl Parser<'_, '_> {
                 }
                 continuation = self.continuation;
             } else {
-                continuation = self.steps(at, true, out)?;
+                continuation = self.steps(next, true, out)?;
             }
         }
         self.continuation = continuation;

@@ -23,8 +23,8 @@ impl<'s> Demangle<'s> {
     /// Prints the first path, with hashes or without them, and with its generic arguments or with
     /// `_` for them.
     ///
-    /// Fails at the first piece that the limit or the sink rejects, and if more references would be
-    /// followed than the adapter allows.
+    /// Fails at the first piece that the limit or the sink rejects, and at the first reference for
+    /// which more bytes may be read again than the adapter allows.
     pub fn write_to<S: TextSink>(
         &self,
         out: &mut SizeLimitedFmtAdapter<'_, S>,

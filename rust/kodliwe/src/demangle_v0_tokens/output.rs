@@ -20,12 +20,15 @@ pub trait Output {
     /// Returns `SinkRefused` if the sink or the size limit rejects a piece. No later piece is sent.
     fn emit(&mut self, source: &Source<'_>, token: &Token) -> Result<(), SinkRefused>;
 
-    /// Counts a reference that is followed.
+    /// Counts the bytes that a reference may make the parser read again, and one more.
     ///
     /// # Errors
     ///
-    /// Returns `SinkRefused` if as many were followed as the output allows.
-    fn follow(&mut self) -> Result<(), SinkRefused>;
+    /// Returns `SinkRefused` if the output allows fewer.
+    fn follow(&mut self, bytes: usize) -> Result<(), SinkRefused>;
+
+    /// Gives back these bytes, which were not read, and one more. Gives back none for `None`.
+    fn give_back(&mut self, bytes: Option<usize>);
 
     /// Prints the token of a syntax error.
     ///
@@ -51,9 +54,12 @@ impl Output for NoOutput {
     }
 
     #[cfg_attr(not(debug_assertions), inline(always))]
-    fn follow(&mut self) -> Result<(), SinkRefused> {
+    fn follow(&mut self, _bytes: usize) -> Result<(), SinkRefused> {
         Ok(())
     }
+
+    #[cfg_attr(not(debug_assertions), inline(always))]
+    fn give_back(&mut self, _bytes: Option<usize>) {}
 
     #[cfg_attr(not(debug_assertions), inline(always))]
     fn emit_error(&mut self, _source: &Source<'_>, _token: &Token) -> Result<(), SinkRefused> {
@@ -73,8 +79,13 @@ impl<'s, S: TextSink> Output for SizeLimitedFmtAdapter<'s, S> {
     }
 
     #[cfg_attr(not(debug_assertions), inline(always))]
-    fn follow(&mut self) -> Result<(), SinkRefused> {
-        SizeLimitedFmtAdapter::follow(self)
+    fn follow(&mut self, bytes: usize) -> Result<(), SinkRefused> {
+        SizeLimitedFmtAdapter::follow(self, bytes)
+    }
+
+    #[cfg_attr(not(debug_assertions), inline(always))]
+    fn give_back(&mut self, bytes: Option<usize>) {
+        SizeLimitedFmtAdapter::give_back(self, bytes)
     }
 
     #[cfg_attr(not(debug_assertions), inline(always))]

@@ -15,7 +15,7 @@ mod text;
 mod value;
 
 pub use crate::demangle_symbol::form::Form;
-pub use format::Format;
+pub use format::{Format, RereadLimit, SizeLimit};
 #[cfg(all(test, feature = "stream"))]
 pub use runs::run_len;
 #[cfg(feature = "stream")]
@@ -23,8 +23,8 @@ pub use runs::run_start;
 pub use slice::{demangle_slice, demangle_slice_formatted};
 #[cfg(feature = "stream")]
 pub use stream::{
-    BytesFilter, StreamFault, SymbolMemo, demangle_bytes, demangle_bytes_formatted,
-    demangle_bytes_limited, demangle_stream, demangle_stream_named,
+    BytesFilter, StreamFault, SymbolMemo, demangle_bytes, demangle_bytes_counted,
+    demangle_bytes_formatted, demangle_bytes_limited, demangle_stream, demangle_stream_named,
 };
 use strip::without_thin_lto;
 pub use text::{demangle_text, demangle_text_formatted, demangle_text_limited};
@@ -45,7 +45,7 @@ pub fn demangle(s: &str) -> Demangle<'_> {
     Demangle::read(without_thin_lto(s), false)
 }
 
-/// Parses a text as a Rust symbol, as `demangle` does. Fails if it is not a symbol.
+/// Parses a text as a Rust symbol, as `try_demangle` does. Fails if it is not a symbol.
 pub fn try_demangle(s: &str) -> Result<Demangle<'_>, TryDemangleError> {
     let symbol = demangle(s);
     if symbol.has_style() {

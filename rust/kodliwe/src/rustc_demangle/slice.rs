@@ -3,21 +3,23 @@
 
 use crate::demangle_sink::{SinkRefused, SliceSink};
 use crate::rustc_demangle::byte_before::ByteBefore;
-use crate::rustc_demangle::format::Format;
+use crate::rustc_demangle::format::{Format, SizeLimit, unfolded_form};
 use crate::rustc_demangle::runs::{run_len, run_start, run_text};
 use crate::rustc_demangle::text::put_run;
 
-/// Writes the replacement of a candidate. Fails if the sink fails.
-fn put_candidate<'b>(
-    candidate: &[u8],
-    before: ByteBefore,
-    out: &mut SliceSink<'b>,
-    format: Format,
-) -> Result<(), SinkRefused> {
-    if before.is_alphanumeric() {
-        return out.put_bytes(candidate);
+impl ByteBefore {
+    /// Writes the replacement of a candidate that follows this. Fails if the sink fails.
+    fn put_candidate<'b>(
+        self,
+        candidate: &[u8],
+        out: &mut SliceSink<'b>,
+        format: Format,
+    ) -> Result<(), SinkRefused> {
+        if self.is_alphanumeric() {
+            return out.put_bytes(candidate);
+        }
+        put_run(run_text(candidate), out, format)
     }
-    put_run(run_text(candidate), out, format)
 }
 
 /// Writes bytes, which need not be UTF-8, with each symbol of them demangled. Fails if the sink
@@ -29,7 +31,7 @@ fn put_slice<'b>(text: &[u8], out: &mut SliceSink<'b>, format: Format) -> Result
         let (kept, found) = rest.split_at(before.plain_len(&rest[..start]));
         let (candidate, following) = found.split_at(run_len(found));
         out.put_bytes(kept)?;
-        put_candidate(candidate, before.after(kept), out, format)?;
+        before.after(kept).put_candidate(candidate, out, format)?;
         rest = following;
     }
     out.put_bytes(rest)
@@ -48,9 +50,9 @@ fn write_slice(text: &[u8], out: &mut [u8], format: Format) -> Option<usize> {
 /// Writes any bytes into memory with each symbol of them demangled, as far as there is room.
 /// Returns the size of the complete output, including the bytes for which there was no room.
 ///
-/// Symbols are found as by `demangle_bytes_limited`, and cut at `limit` bytes. All other bytes are
-/// written unchanged. The size does not depend on the size of the memory. The memory after the
-/// written bytes stays unchanged. It does not allocate.
+/// Symbols are found and cut as by `demangle_bytes_limited`. All other bytes are written unchanged.
+/// The size does not depend on the size of the memory. The memory after the written bytes stays
+/// unchanged. It does not allocate.
 ///
 /// Returns `None` if the size exceeds `usize::MAX`.
 pub fn demangle_slice(
@@ -59,7 +61,8 @@ pub fn demangle_slice(
     include_hash: bool,
     limit: usize,
 ) -> Option<usize> {
-    let format = Format::unfolded(include_hash, limit);
+    let limit = SizeLimit::Bytes(limit);
+    let format = Format::bounded(unfolded_form(include_hash), limit);
     demangle_slice_formatted(text, out, format)
 }
 

@@ -16,7 +16,10 @@ mod line_writer;
 mod memo;
 mod pending_run;
 
-pub use bytes::{BytesFilter, demangle_bytes, demangle_bytes_formatted, demangle_bytes_limited};
+pub use bytes::{
+    BytesFilter, demangle_bytes, demangle_bytes_counted, demangle_bytes_formatted,
+    demangle_bytes_limited,
+};
 pub use fault::StreamFault;
 use line_reader::read_line;
 use line_writer::demangle_line;

@@ -5,11 +5,8 @@ pub(crate) mod printing;
 
 use crate::demangle_sink::{SinkRefused, SizeLimitedFmtAdapter, TextSink};
 use crate::demangle_symbol::cursor::Symbol;
-use crate::rustc_demangle::format::Format;
+use crate::rustc_demangle::format::TextFormat;
 use crate::rustc_demangle::strip::without_thin_lto;
-
-/// The default limit: the most bytes of a symbol before the marker and the suffix.
-pub(crate) const MAX_SIZE: usize = 1_000_000;
 
 /// The scheme of a symbol, and its parsed form.
 #[derive(Clone, Copy)]
@@ -24,7 +21,7 @@ impl DemangleStyle<'_> {
     fn write_to<S: TextSink>(
         &self,
         out: &mut SizeLimitedFmtAdapter<'_, S>,
-        format: Format,
+        format: TextFormat,
     ) -> Result<(), SinkRefused> {
         match self {
             DemangleStyle::Legacy(symbol) => symbol.write_to(out, format.form),

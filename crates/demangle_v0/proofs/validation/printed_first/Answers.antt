@@ -14,7 +14,7 @@ use Rattle.demangle_v0.specs.declared.parser.Continuation.{Continuation}
 use Rattle.demangle_v0.specs.declared.validation.Attempt.{Attempt}
 use Rattle.demangle_v0.specs.declared.validation.Attempt.TheVariants as attempt
 use Rattle.demangle_v0.proofs.WholePaths.{valid_first, printed_end}
-use Rattle.demangle_v0.proofs.PrintLoop.{ended_all, ended_apart, ended_at, prints_so, prints_to}
+use Rattle.demangle_v0.proofs.PrintLoop.{ended_all, ended_apart, ended_at, prints_few, prints_so, prints_to}
 use Rattle.demangle_v0.proofs.validation.printed_first.Goals as goal
 use Rattle.demangle_v0.proofs.validation.printed_first.Goals.{in-None, in-Some-Printing, in-Some-Skipping}
 
@@ -67,8 +67,8 @@ returns-then-is_printed-clause-prints g c =
       | in-Some-Printing w ↦
           let left = w.in-Some-Printing.is ∙ ap Some (rw w.in-Some-Printing.is at w.in-Some-Printing.field-0-is) in
           let is = sym w.is_ok-is_printed.ensures.value ∙ (sym w.is_printed-is ∙ c.if-is_printed.true) in
-          let rest = rw (same.0, same.1) at w.print_validated.ensures.ended.1 in
-          rw w.out-is (prints_so sink symbol form (Ok tt) c.requires.ready (ended_apart left begun (ok_ended w.print_validated.result is rest)))
+          let rest = rw (same.0, same.1) at w.print_validated.ensures.ended in
+          rw w.out-is (prints_so sink symbol form (Ok tt) c.requires.ready (ended_apart (Ok tt) left begun (ok_ended w.print_validated.result is rest)))
       | in-Some-Skipping w ↦ absurd (false≢true (sym w.is_printed-is ∙ c.if-is_printed.true))
     ]
 
@@ -92,4 +92,36 @@ returns-else-is_printed-clause-most g c =
       | in-None w ↦ rw w.parser-is most
       | in-Some-Printing w ↦ rw (w.parser-is, w.print_validated.ensures.looks) most
       | in-Some-Skipping w ↦ rw w.parser-is most
+    ]
+
+pub returns-then-is_printed-clause-few : goal.returns-then-is_printed-clause-few
+returns-then-is_printed-clause-few g c = λ k e.
+    let symbol = c.args.parser.now.source.symbol.now in
+    let form = c.args.parser.now.source.form in
+    let begun = rw (c.requires.path, c.requires.state, c.requires.empty) at c.in-Ok.ensures.ran in
+    let same = c.in-Ok.ensures.same in
+    elim c.match-left.branch [
+      | in-None w ↦ rw w.printing_looks-is (omega arith)
+      | in-Some-Printing w ↦
+          let left = w.in-Some-Printing.is ∙ ap Some (rw w.in-Some-Printing.is at w.in-Some-Printing.field-0-is) in
+          let rest = rw (same.0, same.1) at w.print_validated.ensures.ended in
+          let few = prints_few g.S.TextSink symbol form k w.print_validated.result e (ended_apart w.print_validated.result left begun rest) in
+          rw w.printing_looks-is (omega (arith, few, c.in-Ok.ensures.grows, w.print_validated.ensures.apart))
+      | in-Some-Skipping w ↦ rw w.printing_looks-is (omega arith)
+    ]
+
+pub returns-else-is_printed-clause-few : goal.returns-else-is_printed-clause-few
+returns-else-is_printed-clause-few g c = λ k e.
+    let symbol = c.args.parser.now.source.symbol.now in
+    let form = c.args.parser.now.source.form in
+    let begun = rw (c.requires.path, c.requires.state, c.requires.empty) at c.in-Ok.ensures.ran in
+    let same = c.in-Ok.ensures.same in
+    elim c.match-left.branch [
+      | in-None w ↦ rw w.printing_looks-is (omega arith)
+      | in-Some-Printing w ↦
+          let left = w.in-Some-Printing.is ∙ ap Some (rw w.in-Some-Printing.is at w.in-Some-Printing.field-0-is) in
+          let rest = rw (same.0, same.1) at w.print_validated.ensures.ended in
+          let few = prints_few g.S.TextSink symbol form k w.print_validated.result e (ended_apart w.print_validated.result left begun rest) in
+          rw w.printing_looks-is (omega (arith, few, c.in-Ok.ensures.grows, w.print_validated.ensures.apart))
+      | in-Some-Skipping w ↦ rw w.printing_looks-is (omega arith)
     ]

@@ -1,8 +1,8 @@
 use Rattle.std.proofs.Common.{◌≡◌, ◌∷◌, [], map, length, sym, ap, ◌∙◌, arith}
 use Rattle.std.specs.Vec.Iter.{into_iter_items}
-use Rattle.std.proofs.lemmas.Result.{err_from_is_err_and}
 use Rattle.kodliwe.specs.Parts.{part_in, part_of}
 use Rattle.kodliwe.proofs.PartLemmas.{printing_init, printing_step, printing_end, printing_err, nothing_left}
+use Rattle.kodliwe.proofs.ProgramLooks.{looks_init, looks_step, looks_end, looks_stop}
 use Rattle.kodliwe.proofs.filtering.write_parts.Goals as goal
 
 pub loop-part-init : goal.loop-part-init
@@ -11,7 +11,8 @@ loop-part-init g c =
     let same = ap length gives.0 in (
       printing_init _ _ _ _ (ap (map (part_of g.R.Read.remaining)) (sym gives.0)),
       omega (arith, same, gives.1),
-      c.with_format-memo.ensures,
+      c.with_format.ensures,
+      looks_init _ _ _ _ (ap (map (part_of g.R.Read.remaining)) (sym gives.0)) c.new.ensures.accepting c.new.ensures.printing,
     )
 
 pub loop-part-preserved : goal.loop-part-preserved
@@ -23,18 +24,22 @@ loop-part-preserved g c =
     let was = at.invariant.1 in
     let gone = c.in-Some.ensures.steps.1 in
     let short = ap length steps in (
-      printing_step _ _ _ _ _ _ _ _ at.invariant.0 held c.in_ok-write.ensures.ok,
+      printing_step _ _ _ _ _ _ _ _ at.invariant.0 held c.in_default.ensures.ok,
       omega (arith, was, gone, short),
-      c.in_ok-write.ensures.same ∙ at.invariant.2,
+      c.write.ensures.same ∙ at.invariant.2,
+      looks_step _ _ _ _ _ _ _ at.invariant.3 held c.write.ensures.linear,
     )
 
-pub returns-in_err-write-clause-err : goal.returns-in_err-write-clause-err
-returns-in_err-write-clause-err g c =
+pub returns-in-Err-clause-err : goal.returns-in-Err-clause-err
+returns-in-Err-clause-err g c =
     let at = c.loop-part in
     let held = ap (map (part_of g.R.Read.remaining)) c.in-Some.ensures.steps.0 in
-    let p = err_from_is_err_and c.from_residual.result c.from_residual.ensures.1 in
-    rw (p.1, p.2) (printing_err c.in_err-write.field-0.0.fault c.args.settings.format _ _ (part_of g.R.Read.remaining c.in-Some.part) _ (g.W.Write.contents c.args.output.now)
-    (g.W.Write.contents at.output) (g.W.Write.contents c.write.new.output) at.invariant.0 held c.in_err-write.ensures.err)
+    printing_err c.in-Err.stop.fault c.args.settings.format _ _ (part_of g.R.Read.remaining c.in-Some.part) _ (g.W.Write.contents c.args.output.now)
+    (g.W.Write.contents at.output) (g.W.Write.contents c.write.new.output) at.invariant.0 held c.in-Err.ensures.err
+
+pub returns-in-Err-clause-linear : goal.returns-in-Err-clause-linear
+returns-in-Err-clause-linear g c =
+    looks_stop _ _ _ _ _ _ _ c.loop-part.invariant.3 (ap (map (part_of g.R.Read.remaining)) c.in-Some.ensures.steps.0) c.write.ensures.linear
 
 pub returns-in-Ok-clause-ok : goal.returns-in-Ok-clause-ok
 returns-in-Ok-clause-ok g c =
@@ -45,3 +50,6 @@ returns-in-Ok-clause-ok g c =
     printing_end (part_in c.args.settings.format) _ _
     (g.W.Write.contents c.args.output.now) (g.W.Write.contents at.output) (g.W.Write.contents c.flush.new.output)
     at.invariant.0 held c.flush.ensures.bytes
+
+pub returns-in-Ok-clause-linear : goal.returns-in-Ok-clause-linear
+returns-in-Ok-clause-linear g c = looks_end _ _ _ _ c.loop-part.invariant.3

@@ -2,6 +2,7 @@ use Rattle.std.proofs.Common.{◌≡◌, length, map}
 use Rattle.std.specs.Vec.Iter.{into_iter_items, into_iter_len}
 use Rattle.kodliwe.specs.Parts.{part_in, part_of}
 use Rattle.kodliwe.proofs.PartLemmas.{Printing}
+use Rattle.kodliwe.proofs.ProgramLooks.{LooksLeft}
 use Rattle.kodliwe.proofs.filtering.write_parts.Given as goal
 
 abbrev pub invariant-loop-part : goal.invariant-loop-part
@@ -11,4 +12,5 @@ invariant-loop-part g l =
     (map (part_of g.R.Read.remaining) (into_iter_items l.part-iterator))
     (g.W.Write.contents l.initial.output) (g.W.Write.contents l.output)
     × (into_iter_len l.part-iterator ≡ length (into_iter_items l.part-iterator))
-    × (l.memo ≡ l.fn.settings.format)
+    × (l.symbols.memo ≡ l.fn.settings.format)
+    × LooksLeft l.fn.settings.format (map (part_of g.R.Read.remaining) l.fn.parts.items) (map (part_of g.R.Read.remaining) (into_iter_items l.part-iterator)) l.symbols.looks

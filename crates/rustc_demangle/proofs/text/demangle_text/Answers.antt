@@ -1,6 +1,6 @@
 use Rattle.std.proofs.Common.{subst}
 use Rattle.std.proofs.lemmas.Result.{on_ok_weaker}
-use Rattle.rustc_demangle.specs.Symbols.{most_bytes}
+use Rattle.rustc_demangle.specs.Limits.{most_bytes}
 use Rattle.rustc_demangle.proofs.PieceLemmas.{pieces_join}
 use Rattle.rustc_demangle.proofs.text.demangle_text.Goals as goal
 

@@ -120,7 +120,7 @@ impl<'a> Demangle<'a> {
         out: &mut S,
         format: Format,
     ) -> Result<(), SinkRefused> {
-        self.0.write_formatted(out, format.inner())
+        self.0.write_formatted(out, format.for_symbols())
     }
 }
 
@@ -238,7 +238,7 @@ pub fn demangle_text_formatted<S: TextSink>(
     out: &mut S,
     format: Format,
 ) -> Result<(), SinkRefused> {
-    rustc_demangle::demangle_text_formatted(text, out, format.inner())
+    rustc_demangle::demangle_text_formatted(text, out, format.for_symbols())
 }
 
 /// Writes bytes to `out` with each Rust symbol in them demangled, as far as there is room. Returns
@@ -266,5 +266,5 @@ pub fn demangle_slice(
 
 /// Writes bytes to `out` as [`demangle_slice`] does, with each symbol printed in a format.
 pub fn demangle_slice_formatted(text: &[u8], out: &mut [u8], format: Format) -> Option<usize> {
-    rustc_demangle::demangle_slice_formatted(text, out, format.inner())
+    rustc_demangle::demangle_slice_formatted(text, out, format.for_bytes())
 }

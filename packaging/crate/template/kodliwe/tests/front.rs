@@ -1,8 +1,8 @@
 //! Tests of the crate's public interface.
 use kodliwe::{
-    ArraySink, Demangle, FmtSink, Format, MAX_SIZE, SinkRefused, SliceSink, TextSink, TryDemangleError,
-    demangle, demangle_slice, demangle_slice_formatted, demangle_text, demangle_text_formatted,
-    demangle_text_limited, try_demangle,
+    ArraySink, Demangle, FmtSink, Format, MAX_SIZE, RereadLimit, SinkRefused, SliceSink, TextSink,
+    TryDemangleError, demangle, demangle_slice, demangle_slice_formatted, demangle_text,
+    demangle_text_formatted, demangle_text_limited, try_demangle,
 };
 use std::error::Error;
 use std::fmt::{Debug, Display};
@@ -87,7 +87,7 @@ fn a_format_has_what_was_set() {
         assert!(written.is_ok());
         assert_eq!(path, wanted);
     }
-    assert_eq!(Format::default(), Format::new().with_limit(MAX_SIZE));
+    assert_eq!(Format::default(), Format::new());
 }
 
 #[test]
@@ -123,6 +123,41 @@ fn a_slice_counts_what_does_not_fit() {
     assert_eq!(sink.len(), 8);
     assert_eq!(format!("{sink:?}"), "SliceSink { len: 8, is_failed: false, .. }");
     assert_eq!(&memory, b"foo:");
+}
+
+#[test]
+fn calls_over_bytes_limit_what_is_read_again() {
+    // The test `each_byte_of_a_symbol_allows_384` of demangle_vectors has the arithmetic.
+    let names = format!("{}C0{}", "Nt".repeat(62), "0".repeat(62));
+    let symbol = format!("_RMC0TT{names}{}E{}E", "B4_".repeat(30), "B3_".repeat(22));
+    let tuple = format!("({}), ", ", ".repeat(30)).repeat(22);
+    let whole = format!("<({tuple}({}))>", ", ".repeat(30));
+    let cut = format!("<({tuple}({}{{size limit reached}}", ", ".repeat(28));
+    let format = Format::new();
+    for (format, path, replaced) in [
+        (format, &whole, &cut),
+        (format.with_folded_arguments(true), &whole, &cut),
+        (format.with_limit(MAX_SIZE), &whole, &cut),
+        (format.with_reread_limit(RereadLimit::Linear), &cut, &cut),
+        (format.with_reread_limit(RereadLimit::Bytes(384 * 353)), &cut, &cut),
+        (format.with_reread_limit(RereadLimit::Unlimited), &whole, &whole),
+    ] {
+        let mut printed = ArraySink::<2048>::new();
+        assert!(demangle(&symbol).write_formatted(&mut printed, format).is_ok());
+        assert_eq!(printed.as_str(), path);
+        let mut text = ArraySink::<2048>::new();
+        assert!(demangle_text_formatted(&symbol, &mut text, format).is_ok());
+        assert_eq!(text.as_str(), path);
+        let mut memory = [0; 2048];
+        let len = demangle_slice_formatted(symbol.as_bytes(), &mut memory, format);
+        assert_eq!(len.and_then(|len| memory.get(..len)), Some(replaced.as_bytes()));
+        #[cfg(feature = "stream")]
+        {
+            let mut output = Vec::new();
+            kodliwe::demangle_bytes_formatted(&mut symbol.as_bytes(), &mut output, format).unwrap();
+            assert_eq!(output, replaced.as_bytes());
+        }
+    }
 }
 
 #[cfg(feature = "stream")]

@@ -5,9 +5,6 @@ use crate::kodliwe::arguments::{InputSource, Request, Target, UsageError, Valued
 use crate::support::alloc::{AllocError, Global};
 use crate::support::vec::Vec;
 
-/// The default limit on the bytes of a path.
-const LIMIT: usize = 1_000_000;
-
 impl<'a> Request<'a> {
     /// Returns a request with the default options and nothing to filter.
     pub(super) fn new(alloc: Global) -> Request<'a> {
@@ -16,7 +13,7 @@ impl<'a> Request<'a> {
             output: None,
             include_hash: false,
             fold_arguments: false,
-            limit: LIMIT,
+            limit: None,
         }
     }
 
@@ -65,7 +62,7 @@ impl<'a> Request<'a> {
                 let Ok(limit) = value.parse::<usize>() else {
                     return Err(UsageError::BadNumber(argument, value));
                 };
-                self.limit = limit;
+                self.limit = Some(limit);
             }
         }
         Ok(())

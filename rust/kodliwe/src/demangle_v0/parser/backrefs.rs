@@ -8,8 +8,14 @@ use crate::demangle_v0_tokens::backref::{BackrefOutcome, read_backref};
 use crate::demangle_v0_tokens::output::Output;
 
 impl Parser<'_, '_> {
+    /// Returns the number of bytes from a place to the end of the symbol, or `None` after an error.
+    #[cfg_attr(not(debug_assertions), inline(always))]
+    fn bytes_after(&self, place: Option<usize>) -> Option<usize> {
+        place.map(|place| self.source.symbol.len().saturating_sub(place))
+    }
+
     /// Reads a back reference after its `B`, and continues at its target if `output` prints. Fails
-    /// if `output` allows no more references.
+    /// if `output` allows fewer bytes to be read again than those after the target.
     ///
     /// `unit` is the continuation at which the target begins. The frame on top of the stack then
     /// has the place after the reference.
@@ -30,7 +36,7 @@ impl Parser<'_, '_> {
                     self.state.place = Some(next);
                     return Ok(Continuation::End);
                 }
-                output.follow()?;
+                output.follow(self.source.symbol.len().saturating_sub(target))?;
                 let frame = self.state.frame(Continuation::AfterBackref);
                 self.stack.push(Frame {
                     number: next as u128,
@@ -44,11 +50,13 @@ impl Parser<'_, '_> {
         }
     }
 
-    /// Continues after a back reference, whose target was printed.
+    /// Continues after a back reference, whose target was printed. Gives back to `output` the bytes
+    /// after the target's end.
     #[cfg_attr(not(debug_assertions), inline(always))]
-    pub(super) fn after_backref(&mut self) -> Continuation {
+    pub(super) fn after_backref<V: Output>(&mut self, output: &mut V) -> Continuation {
         let after = self.state.lifetimes as usize;
         let end = self.place();
+        output.give_back(self.bytes_after(end));
         self.fuel.leave(end, after, self.source.symbol.len());
         self.state.place = Some(after);
         Continuation::End

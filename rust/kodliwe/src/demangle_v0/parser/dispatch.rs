@@ -2,8 +2,8 @@
 //! Calls the method of each continuation.
 
 use crate::demangle_v0::parser::constant_lists::ConstantList;
-use crate::demangle_v0::parser::parse::Parser;
 use crate::demangle_v0::parser::out_of_line::OutOfLine;
+use crate::demangle_v0::parser::parse::Parser;
 use crate::demangle_v0::parser::types::may_have_splat;
 use crate::demangle_v0::parser::{Continuation, StepError};
 use crate::demangle_v0_tokens::output::Output;
@@ -79,7 +79,7 @@ impl Parser<'_, '_> {
             Continuation::FirstField => Ok(self.first_list_constant(ConstantList::Fields)),
             Continuation::NextField => Ok(self.next_list_constant(ConstantList::Fields)),
             Continuation::Field => self.out_of_line(OutOfLine::Field, output),
-            Continuation::AfterBackref => Ok(self.after_backref()),
+            Continuation::AfterBackref => Ok(self.after_backref(output)),
             Continuation::CloseParen
             | Continuation::CloseAngle
             | Continuation::Mut

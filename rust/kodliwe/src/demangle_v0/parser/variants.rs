@@ -1,8 +1,8 @@
 // Made from crates/demangle_v0/src/parser/variants.rt by packaging/crate/erase.py: edit that file instead.
 //! Continuations of variants and of their fields.
 
-use crate::demangle_v0::parser::parse::Parser;
 use crate::demangle_v0::parser::names::has_encoded_name;
+use crate::demangle_v0::parser::parse::Parser;
 use crate::demangle_v0::parser::{Continuation, StepError};
 use crate::demangle_v0_tokens::fixed_texts::FixedText;
 use crate::demangle_v0_tokens::output::Output;

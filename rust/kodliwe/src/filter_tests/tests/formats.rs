@@ -1,15 +1,24 @@
 // Made from crates/filter_tests/src/tests/formats.rt by packaging/crate/erase.py: edit that file instead.
-//! Tests of texts that are filtered in a format: folded, and with a limit of references.
+//! Tests of texts that are filtered in a format: folded, and with a limit of the bytes that are read
+//! again.
 use super::repeats::repeated;
 use super::slices::assert_filters_to;
 use crate::rustc_demangle::sink::ArraySink;
-use crate::rustc_demangle::{Form, Format, demangle_bytes_formatted, demangle_text_formatted};
+use crate::rustc_demangle::{
+    Form, Format, RereadLimit, SizeLimit, demangle_bytes, demangle_bytes_formatted,
+    demangle_slice_formatted, demangle_text_formatted,
+};
 use crate::support::alloc::{AllocError, Global};
 use crate::support::format;
 use crate::support::rt::HostRuntime;
-use crate::support::test::Fail;
+use crate::support::string::String;
 use crate::support::texts::RepeatIn;
+use crate::support::vec::CollectIn;
 use crate::support::vec::Vec;
+use std::io::ErrorKind;
+
+use crate::support::test::Fail;
+use crate::test_doubles::streams::ChunkReader;
 
 /// A text that repeats a symbol of at least 20 bytes, so that a memo keeps it.
 const TEXT: &[u8] = b"a _RINvC3foo3barhE \xFF_RNvMC3fooINtB2_3BarlE3baz\n\
@@ -45,8 +54,8 @@ fn texts_are_written_in_a_format() -> Result<(), Fail> {
         };
         let format = Format {
             form,
-            limit: 1_000_000,
-            references: None,
+            limit: SizeLimit::Bytes(1_000_000),
+            reread: RereadLimit::Unlimited,
         };
         let output = filtered(alloc, TEXT, format)?;
         assert_eq!(output.as_slice(), wanted, "by the filter of bytes");
@@ -218,38 +227,175 @@ fn a_deep_list_is_folded() -> Result<(), Fail> {
     Ok(())
 }
 
-/// A text with three runs, each a symbol with two references.
+/// A text with three runs, each a symbol with two references. To print it reads 24 bytes again.
 const REFERENCES: &[u8] =
     b"x _RINvC1a1bNtB2_1cNtB2_1dE y _RINvC1a1bNtB2_1cNtB2_1dE _RINvC1a1bNtB2_1cNtB2_1dE";
 
-/// A limit of references, and what a filter writes for this text.
-const LIMITED: [(Option<usize>, &[u8]); 3] = [
+/// The text with the whole paths.
+const WHOLE: &[u8] = b"x a::b::<a::c, a::d> y a::b::<a::c, a::d> a::b::<a::c, a::d>";
+
+/// A limit of the bytes that are read again, and what a filter writes for this text.
+const LIMITED: [(RereadLimit, &[u8]); 4] = [
     (
-        Some(1),
+        RereadLimit::Bytes(23),
         b"x a::b::<a::c, {size limit reached} y a::b::<a::c, {size limit reached} a::b::<a::c, {size limit reached}",
     ),
-    (
-        Some(2),
-        b"x a::b::<a::c, a::d> y a::b::<a::c, a::d> a::b::<a::c, a::d>",
-    ),
-    (
-        None,
-        b"x a::b::<a::c, a::d> y a::b::<a::c, a::d> a::b::<a::c, a::d>",
-    ),
+    (RereadLimit::Bytes(24), WHOLE),
+    (RereadLimit::Linear, WHOLE),
+    (RereadLimit::Unlimited, WHOLE),
 ];
 
 #[test]
-fn filters_limit_references() -> Result<(), Fail> {
+fn filters_limit_the_bytes_that_are_read_again() -> Result<(), Fail> {
     let rt = HostRuntime;
     let alloc = rt.alloc();
-    for (references, wanted) in LIMITED {
+    for (reread, wanted) in LIMITED {
         let format = Format {
-            references,
+            reread,
             ..Format::unfolded(false, 1_000_000)
         };
         let output = filtered(alloc, REFERENCES, format)?;
         assert_eq!(output.as_slice(), wanted, "by the filter of bytes");
         assert_filters_to(REFERENCES, format, wanted);
     }
+    Ok(())
+}
+
+/// Returns what the calls without a limit write: the filter of bytes.
+fn unlimited(alloc: Global, text: &[u8]) -> Result<Vec<u8>, AllocError> {
+    let mut input = text;
+    let mut output = Vec::new(alloc);
+    // A reader and a writer in memory fail only if an allocation fails.
+    match demangle_bytes(alloc, &mut input, &mut output, false) {
+        Ok(()) => Ok(output),
+        Err(_) => Err(AllocError),
+    }
+}
+
+#[test]
+fn a_path_is_linear_in_its_symbol_without_a_limit() -> Result<(), Fail> {
+    let rt = HostRuntime;
+    let alloc = rt.alloc();
+    // A symbol of 16 bytes, whose path has over 60,000.
+    let symbol = b"_RMC0FG15FTGf_Eu";
+    let format = Format::unfolded(false, 999 * 16 - 20);
+    let cut = filtered(alloc, symbol, format)?;
+    assert!(cut.len() < 1_000 * 16);
+    assert!(cut.as_slice().ends_with(b"{size limit reached}"));
+    let output = unlimited(alloc, symbol)?;
+    assert_eq!(output.as_slice(), cut.as_slice());
+    let lines = repeated(alloc, symbol)?;
+    let output = unlimited(alloc, lines.as_slice())?;
+    let wanted = repeated(alloc, cut.as_slice())?;
+    assert_eq!(output.as_slice(), wanted.as_slice(), "in lines");
+    Ok(())
+}
+
+/// Returns a path of 188 bytes that prints nothing: empty names in one another.
+fn empty_names(alloc: Global) -> Result<String, AllocError> {
+    let open = "Nt".repeat_in(alloc, 62)?;
+    let close = "0".repeat_in(alloc, 62)?;
+    format!(in alloc; "{open}C0{close}")
+}
+
+/// Returns a path of 188 bytes that prints nothing: a crate with a long number.
+fn empty_crate(alloc: Global) -> Result<String, AllocError> {
+    let number = "0".repeat_in(alloc, 184)?;
+    format!(in alloc; "Cs{number}_0")
+}
+
+/// Returns a symbol of 353 bytes whose references may use 384 x 353. It has a path of 188 bytes that
+/// prints nothing. The test `each_byte_of_a_symbol_allows_384` of `demangle_vectors` has the
+/// arithmetic.
+fn tuples(alloc: Global, path: &str) -> Result<String, AllocError> {
+    let inner = "B4_".repeat_in(alloc, 30)?;
+    let outer = "B3_".repeat_in(alloc, 22)?;
+    format!(in alloc; "_RMC0TT{path}{inner}E{outer}E")
+}
+
+/// Returns the path of that symbol up to the limit, with so many commas in the last tuple.
+fn cut_tuples(alloc: Global, commas: usize) -> Result<String, AllocError> {
+    let whole = ", ".repeat_in(alloc, 30)?;
+    let whole = format!(in alloc; "({whole}), ")?;
+    let whole = whole.repeat_in(alloc, 22)?;
+    let last = ", ".repeat_in(alloc, commas)?;
+    format!(in alloc; "<({whole}({last}{{size limit reached}}")
+}
+
+/// Asserts that a text filters to another one in a format: in memory, and from a reader with chunks
+/// of several sizes, where a memo finds the symbols again.
+fn assert_filters_repeatedly(
+    alloc: Global,
+    text: &str,
+    format: Format,
+    wanted: &str,
+) -> Result<(), Fail> {
+    let mut memory = [0; 8_192];
+    let len = demangle_slice_formatted(text.as_bytes(), &mut memory, format);
+    assert_eq!(len, Some(wanted.len()));
+    assert_eq!(memory.get(..wanted.len()), Some(wanted.as_bytes()));
+    let lines = repeated(alloc, text.as_bytes())?;
+    let wanted_lines = repeated(alloc, wanted.as_bytes())?;
+    for size in [64, 100_000] {
+        let parts: Vec<&[u8]> = lines.as_slice().chunks(size).collect_in(alloc)?;
+        let mut input = ChunkReader::new(parts.as_slice(), usize::MAX, ErrorKind::Other);
+        let mut output = Vec::new(alloc);
+        demangle_bytes_formatted(alloc, &mut input, &mut output, format)
+            .map_err(|fault| fault.into_io())?;
+        assert!(output.as_slice() == wanted_lines.as_slice(), "by {size}");
+    }
+    Ok(())
+}
+
+#[test]
+fn each_run_of_a_text_has_a_limit_of_its_own() -> Result<(), Fail> {
+    let rt = HostRuntime;
+    let alloc = rt.alloc();
+    let path = cut_tuples(alloc, 28)?;
+    // A single `_` before a run is a byte of the symbol. A suffix of ThinLTO is none.
+    let longer_path = cut_tuples(alloc, 30)?;
+    let wanted_one = format!(in alloc; "x {path}")?;
+    let wanted_three = format!(in alloc; "x {path} {longer_path} {path} y")?;
+    for (inner, limit, fold_arguments) in [
+        (empty_names(alloc)?, SizeLimit::Bytes(1_000_000), false),
+        (empty_crate(alloc)?, SizeLimit::Linear, true),
+    ] {
+        let symbol = tuples(alloc, inner.as_str())?;
+        let one = format!(in alloc; "x {symbol}.llvm.1234")?;
+        let three = format!(in alloc; "x {symbol} _{symbol} {symbol}.llvm.1234 y")?;
+        let form = Form {
+            include_hash: false,
+            fold_arguments,
+        };
+        let format = Format {
+            form,
+            limit,
+            reread: RereadLimit::Linear,
+        };
+        for (text, wanted) in [(&one, &wanted_one), (&three, &wanted_three)] {
+            let (text, wanted) = (text.as_str(), wanted.as_str());
+            assert_filters_repeatedly(alloc, text, format, wanted)?;
+        }
+    }
+    Ok(())
+}
+
+#[test]
+fn each_run_of_a_line_has_a_limit_of_its_own() -> Result<(), Fail> {
+    let rt = HostRuntime;
+    let alloc = rt.alloc();
+    let names = empty_names(alloc)?;
+    let symbol = tuples(alloc, names.as_str())?;
+    let path = cut_tuples(alloc, 28)?;
+    let text = format!(in alloc; "x {symbol} _{symbol} {symbol}.llvm.1234 y")?;
+    // A `_` before a run is no byte of the symbol here.
+    let wanted = format!(in alloc; "x {path} _{path} {path} y")?;
+    let format = Format {
+        reread: RereadLimit::Linear,
+        ..Format::unfolded(false, 1_000_000)
+    };
+    let mut sink: ArraySink<8_192> = ArraySink::new();
+    assert!(demangle_text_formatted(text.as_str(), &mut sink, format).is_ok());
+    assert_eq!(sink.as_str(), wanted.as_str());
     Ok(())
 }

@@ -2,13 +2,13 @@
 //! Demangles any bytes that come from a reader.
 
 use crate::rustc_demangle::byte_before::ByteBefore;
-use crate::rustc_demangle::format::Format;
+use crate::rustc_demangle::format::{Format, SizeLimit, unfolded_form};
 use crate::rustc_demangle::stream::fault::{StreamFault, read_fault};
 use crate::rustc_demangle::stream::memo::SymbolMemo;
-use crate::rustc_demangle::stream::pending_run::{Pending, filter_chunk, finish};
-use crate::rustc_demangle::value::MAX_SIZE;
-use crate::support::alloc::{Allocator, Global};
+use crate::rustc_demangle::stream::pending_run::Pending;
 use crate::support::vec::Vec;
+
+use crate::support::alloc::{Allocator, Global};
 use std::io;
 use std::io::{BufRead, Write};
 
@@ -49,33 +49,19 @@ impl<A: Allocator> BytesFilter<A> {
             Err(error) => return Err(read_fault(error)),
         };
         if available.is_empty() {
-            finish(&mut self.pending, output, memo)?;
+            self.pending.finish(output, memo)?;
             self.pending.before = ByteBefore::Outside;
             return Ok(false);
         }
-        let taken = filter_chunk(&mut self.pending, available, output, memo)?;
+        let taken = self.pending.filter_chunk(available, output, memo)?;
         input.consume(taken);
         Ok(true)
     }
 }
 
-/// Makes steps up to the end of the input. Fails as `BytesFilter::step` does.
-fn run_to_end<R: BufRead, W: Write, A: Allocator>(
-    filter: &mut BytesFilter<A>,
-    input: &mut R,
-    output: &mut W,
-    memo: &mut SymbolMemo,
-) -> Result<(), StreamFault> {
-    for _ in 0..=u64::MAX {
-        if !filter.step(input, output, memo)? {
-            return Ok(());
-        }
-    }
-    Err(StreamFault::Read(io::Error::other("too many steps")))
-}
-
 /// Writes the input, which may be any bytes, with each symbol of it demangled. Each symbol is cut
-/// at `limit` bytes before its suffix.
+/// at `limit` bytes before its suffix, or where its references would make a print of it read more
+/// than 384 bytes again for each of its own, or more than 384,000,000.
 ///
 /// A candidate symbol, or run, starts with `_ZN` or `_R`. It continues up to the next byte that is
 /// not an ASCII letter, a digit, `$`, `.` or `_`. A run that is not a symbol is written unchanged,
@@ -100,30 +86,48 @@ pub fn demangle_bytes_limited<R: BufRead, W: Write>(
     include_hash: bool,
     limit: usize,
 ) -> Result<(), StreamFault> {
-    let format = Format::unfolded(include_hash, limit);
+    let limit = SizeLimit::Bytes(limit);
+    let format = Format::bounded(unfolded_form(include_hash), limit);
     demangle_bytes_formatted(alloc, input, output, format)
 }
 
-/// Writes the input, which may be any bytes, with each symbol of it demangled in a format, as
-/// `demangle_bytes_limited` does.
+/// Writes the input, which may be any bytes, with each symbol of it demangled, as
+/// `demangle_bytes_limited` does. The memo determines how symbols are printed, and remembers their
+/// texts.
+pub fn demangle_bytes_counted<R: BufRead, W: Write>(
+    input: &mut R,
+    output: &mut W,
+    memo: &mut SymbolMemo,
+) -> Result<(), StreamFault> {
+    let mut filter = BytesFilter::new(memo.allocator());
+    for _ in 0..=u64::MAX {
+        if !filter.step(input, output, memo)? {
+            return Ok(());
+        }
+    }
+    Err(StreamFault::Read(io::Error::other("too many steps")))
+}
+
+/// Writes the input with each symbol of it demangled in a format, as `demangle_bytes_counted` does.
 pub fn demangle_bytes_formatted<R: BufRead, W: Write>(
     alloc: Global,
     input: &mut R,
     output: &mut W,
     format: Format,
 ) -> Result<(), StreamFault> {
-    let mut filter = BytesFilter::new(alloc);
     let mut memo = SymbolMemo::with_format(alloc, format);
-    run_to_end(&mut filter, input, output, &mut memo)
+    demangle_bytes_counted(input, output, &mut memo)
 }
 
 /// Writes the input, which may be any bytes, with each symbol of it demangled, as
-/// `demangle_bytes_limited` does. Each symbol is cut at 1,000,000 bytes.
+/// `demangle_bytes_limited` does. A symbol of n bytes is cut at 999 n - 20 bytes, and at 1,000,000
+/// at most. So the output has at most 1,000 bytes for each byte of the input.
 pub fn demangle_bytes<R: BufRead, W: Write>(
     alloc: Global,
     input: &mut R,
     output: &mut W,
     include_hash: bool,
 ) -> Result<(), StreamFault> {
-    demangle_bytes_limited(alloc, input, output, include_hash, MAX_SIZE)
+    let format = Format::bounded(unfolded_form(include_hash), SizeLimit::Linear);
+    demangle_bytes_formatted(alloc, input, output, format)
 }

@@ -6,6 +6,7 @@ use crate::rustc_demangle::coalescing::write_at_once;
 use crate::rustc_demangle::format::Format;
 use crate::rustc_demangle::text::demangle_text;
 use crate::rustc_demangle::value::Demangle;
+
 use std::io;
 use std::io::Write;
 
@@ -41,18 +42,21 @@ fn write_text<W: Write>(text: &str, output: &mut W) -> io::Result<()> {
     output.write_all(text.as_bytes())
 }
 
-/// Writes the replacement of a run that was read: the printed symbol, or the run itself if it is not a
-/// symbol. Either is one call of the writer if it has up to 2,048 bytes. Fails if the writer fails.
-pub(super) fn write_read_at_once<W: Write>(
-    symbol: &Demangle<'_>,
-    run: &str,
-    output: &mut W,
-    format: Format,
-) -> io::Result<()> {
-    if symbol.has_style() {
-        write_symbol_at_once(symbol, output, format)
-    } else {
-        write_text(run, output)
+impl Demangle<'_> {
+    /// Writes the replacement of a run that was read as this: the printed symbol, or the run itself
+    /// if it is not a symbol. Either is one call of the writer if it has up to 2,048 bytes. Fails
+    /// if the writer fails.
+    pub(super) fn write_read_at_once<W: Write>(
+        &self,
+        run: &str,
+        output: &mut W,
+        format: Format,
+    ) -> io::Result<()> {
+        if self.has_style() {
+            write_symbol_at_once(self, output, format)
+        } else {
+            write_text(run, output)
+        }
     }
 }
 
@@ -62,11 +66,12 @@ pub(super) fn write_run_at_once<W: Write>(
     output: &mut W,
     format: Format,
 ) -> io::Result<()> {
-    write_read_at_once(&Demangle::read_run(run), run, output, format)
+    let symbol = Demangle::read_run(run);
+    symbol.write_read_at_once(run, output, format)
 }
 
-/// Writes the replacement of a run: the printed symbol, with a write for each piece, or the run itself
-/// if it is not a symbol. Fails if the writer fails.
+/// Writes the replacement of a run: the printed symbol, with a write for each piece, or the run
+/// itself if it is not a symbol. Fails if the writer fails.
 pub(super) fn write_run<W: Write>(run: &str, output: &mut W, format: Format) -> io::Result<()> {
     let symbol = Demangle::read_run(run);
     if symbol.has_style() {

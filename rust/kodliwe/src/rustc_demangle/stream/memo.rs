@@ -1,12 +1,10 @@
 // Made from crates/rustc_demangle/src/stream/memo.rt by packaging/crate/erase.py: edit that file instead.
 //! Remembers the symbols that a filter printed.
 
-use crate::rustc_demangle::format::Format;
+use crate::rustc_demangle::format::{Format, SizeLimit, unfolded_form};
 use crate::rustc_demangle::stream::buffer_sink::BufferSink;
 use crate::rustc_demangle::stream::credit::{Credit, starts_as_v0};
-use crate::rustc_demangle::stream::line_writer::{
-    write_read_at_once, write_run, write_run_at_once,
-};
+use crate::rustc_demangle::stream::line_writer::{write_run, write_run_at_once};
 use crate::rustc_demangle::value::Demangle;
 use crate::rustc_demangle::value::printing::{Tried, print_legacy_run, print_v0_run};
 
@@ -27,8 +25,8 @@ const MAX_MISSES: u32 = 4096;
 /// The number of runs for which a memo stays off.
 const PAUSE: u32 = 32_768;
 
-/// The most bytes of a run that is printed before it is known to be a symbol. Of the symbols that are
-/// longer, many have so many references that they are validated in any case.
+/// The most bytes of a run that is printed before it is known to be a symbol. Of the symbols that
+/// are longer, many have so many references that they are validated in any case.
 const MOST_PRINTED: usize = 384;
 
 /// The same if arguments are folded. Then no reference in them is followed.
@@ -84,6 +82,7 @@ struct Store {
 /// two symbols. If memory can't be allocated, symbols are parsed as without a memo. The memo turns
 /// itself off for a while if few symbols repeat.
 pub struct SymbolMemo {
+    alloc: Global,
     format: Format,
     store: Store,
     probe: Probe,
@@ -95,8 +94,8 @@ fn print_to_buffer(symbol: &Demangle<'_>, held: &mut PieceBuffer, format: Format
     symbol.write_formatted(&mut sink, format).is_ok()
 }
 
-/// Prints a run into the buffer before it is known to be a symbol up to that. Returns what is known
-/// of it then. Unless it was printed, the buffer may have a part of it.
+/// Prints a run into the buffer before it is known to be a symbol. Returns what is known of it
+/// then. Unless it was printed, the buffer may have a part of it.
 #[cfg_attr(not(debug_assertions), inline(always))]
 fn print_first<'a>(run: &'a str, held: &mut PieceBuffer, format: Format) -> Tried<'a> {
     held.clear();
@@ -162,53 +161,55 @@ impl Store {
         Some(symbol)
     }
 
-    /// Prints a run that was read, and remembers its text, or that it is too long.
-    fn print_read(
-        &mut self,
-        symbol: &Demangle<'_>,
-        run: &str,
-        hash: u64,
-        format: Format,
-    ) -> Printed {
+    /// Prints into the buffer a run that was read of printing.
+    fn print_read(&mut self, symbol: &Demangle<'_>, format: Format) -> Printed {
         if !symbol.has_style() {
-            let kept = run.as_bytes();
-            self.texts.insert(kept, kept, hash);
             return Printed::NoSymbol;
         }
         self.printed.clear();
-        if !print_to_buffer(symbol, &mut self.printed, format) {
-            self.texts.note_too_long(hash);
-            return Printed::TooLong;
+        if print_to_buffer(symbol, &mut self.printed, format) {
+            Printed::Symbol
+        } else {
+            Printed::TooLong
         }
-        self.texts
-            .insert(run.as_bytes(), self.printed.as_slice(), hash);
-        Printed::Symbol
     }
-}
 
-/// Prints a run, and remembers its text, or that it is too long.
-#[inline(never)]
-fn print_new(run: &str, hash: u64, format: Format, store: &mut Store) -> Printed {
-    if let Some(symbol) = store.print_or_read(run, format) {
-        return store.print_read(&symbol, run, hash, format);
+    /// Prints a run into the buffer.
+    #[cfg_attr(not(debug_assertions), inline(always))]
+    fn print_run(&mut self, run: &str, format: Format) -> Printed {
+        match self.print_or_read(run, format) {
+            Some(symbol) => self.print_read(&symbol, format),
+            None => Printed::Symbol,
+        }
     }
-    store
-        .texts
-        .insert(run.as_bytes(), store.printed.as_slice(), hash);
-    Printed::Symbol
+
+    /// Prints a run as `print_run` does, and remembers its text, or that it is too long.
+    #[inline(never)]
+    fn print_new(&mut self, run: &str, hash: u64, format: Format) -> Printed {
+        let printed = self.print_run(run, format);
+        let key = run.as_bytes();
+        match printed {
+            Printed::Symbol => self.texts.insert(key, self.printed.as_slice(), hash),
+            Printed::NoSymbol => self.texts.insert(key, key, hash),
+            Printed::TooLong => self.texts.note_too_long(hash),
+        }
+        printed
+    }
 }
 
 impl SymbolMemo {
     /// Returns a memo of symbols that are printed with or without the hash, each cut at `limit`
-    /// bytes before its suffix.
+    /// bytes before its suffix. Its limit of the bytes that are read again is linear.
     pub fn new(alloc: Global, include_hash: bool, limit: usize) -> Self {
-        let format = Format::unfolded(include_hash, limit);
+        let limit = SizeLimit::Bytes(limit);
+        let format = Format::bounded(unfolded_form(include_hash), limit);
         SymbolMemo::with_format(alloc, format)
     }
 
     /// Returns a memo of symbols that are printed in a format.
     pub fn with_format(alloc: Global, format: Format) -> Self {
         SymbolMemo {
+            alloc,
             format,
             store: Store {
                 texts: TextMemo::new(alloc),
@@ -222,6 +223,16 @@ impl SymbolMemo {
         }
     }
 
+    /// Returns the format in which symbols are printed.
+    pub fn format(&self) -> Format {
+        self.format
+    }
+
+    /// Returns the allocator of the memo.
+    pub(super) fn allocator(&self) -> Global {
+        self.alloc
+    }
+
     /// Returns the number of bytes of memory that the memo has allocated, which is at most 4.5 MB.
     #[cfg(all(test, feature = "stream"))]
     pub fn allocated(&self) -> usize {
@@ -232,7 +243,7 @@ impl SymbolMemo {
     #[cfg_attr(not(debug_assertions), inline(always))]
     fn write_once<W: Write>(&mut self, run: &str, output: &mut W) -> io::Result<()> {
         match self.store.print_or_read(run, self.format) {
-            Some(symbol) => write_read_at_once(&symbol, run, output, self.format),
+            Some(symbol) => symbol.write_read_at_once(run, output, self.format),
             None => output.write_all(self.store.printed.as_slice()),
         }
     }
@@ -246,8 +257,7 @@ impl SymbolMemo {
             Noted::New => return self.write_once(run, output),
             Noted::TooLong => return write_run_at_once(run, output, self.format),
         }
-
-        match print_new(run, hash, self.format, &mut self.store) {
+        match self.store.print_new(run, hash, self.format) {
             Printed::Symbol => output.write_all(self.store.printed.as_slice()),
             Printed::NoSymbol => output.write_all(run.as_bytes()),
             Printed::TooLong => write_run_at_once(run, output, self.format),

@@ -6,8 +6,9 @@ use crate::rustc_demangle::byte_before::ByteBefore;
 use crate::rustc_demangle::runs::{run_len, run_start, run_text};
 use crate::rustc_demangle::stream::fault::StreamFault;
 use crate::rustc_demangle::stream::memo::SymbolMemo;
-use crate::support::alloc::Allocator;
 use crate::support::vec::Vec;
+
+use crate::support::alloc::Allocator;
 use std::io::Write;
 
 /// The bytes that a filter read and has not written.
@@ -29,40 +30,23 @@ fn write_unchanged<W: Write>(bytes: &[u8], output: &mut W) -> Result<(), StreamF
     }
 }
 
-/// Writes the replacement of a candidate. Fails if the writer fails.
-#[cfg_attr(not(debug_assertions), inline(always))]
-fn write_candidate<W: Write>(
-    candidate: &[u8],
-    before: ByteBefore,
-    output: &mut W,
-    memo: &mut SymbolMemo,
-) -> Result<(), StreamFault> {
-    if before.is_alphanumeric() {
-        return write_unchanged(candidate, output);
+impl SymbolMemo {
+    /// Writes the replacement of a candidate. Fails if the writer fails.
+    #[cfg_attr(not(debug_assertions), inline(always))]
+    fn write_candidate<W: Write>(
+        &mut self,
+        candidate: &[u8],
+        before: ByteBefore,
+        output: &mut W,
+    ) -> Result<(), StreamFault> {
+        if before.is_alphanumeric() {
+            return write_unchanged(candidate, output);
+        }
+        match self.write_run(run_text(candidate), output) {
+            Ok(()) => Ok(()),
+            Err(error) => Err(StreamFault::Write(error)),
+        }
     }
-    match memo.write_run(run_text(candidate), output) {
-        Ok(()) => Ok(()),
-        Err(error) => Err(StreamFault::Write(error)),
-    }
-}
-
-/// Writes the filtered form of the pending text, which is complete. Clears the text, even if the
-/// writer fails.
-pub(super) fn finish<W: Write, A: Allocator>(
-    pending: &mut Pending<A>,
-    output: &mut W,
-    memo: &mut SymbolMemo,
-) -> Result<(), StreamFault> {
-    let before = pending.before;
-    let text = pending.bytes.as_slice();
-    let written = if before.starts_candidate(text) {
-        write_candidate(text, before, output, memo)
-    } else {
-        write_unchanged(text, output)
-    };
-    pending.before = before.after(text);
-    pending.bytes.clear();
-    written
 }
 
 /// Appends bytes to the pending text. Fails if memory can't be allocated, and then leaves it
@@ -97,91 +81,113 @@ fn extends_prefix(before: ByteBefore, pending: &[u8], byte: u8) -> bool {
     }
 }
 
-/// Appends one byte to pending bytes that are no candidate and returns 1, if they may still start
-/// one. Otherwise writes the pending bytes as plain text and returns 0. Fails if the writer fails
-/// or memory can't be allocated.
-fn extend_prefix<W: Write, A: Allocator>(
-    pending: &mut Pending<A>,
-    available: &[u8],
-    output: &mut W,
-    memo: &mut SymbolMemo,
-) -> Result<usize, StreamFault> {
-    if extends_prefix(pending.before, pending.bytes.as_slice(), available[0]) {
-        buffer_bytes(&mut pending.bytes, &available[..1])?;
-        return Ok(1);
+impl<A: Allocator> Pending<A> {
+    /// Writes the filtered form of the pending text, which is complete. Clears the text, even if
+    /// the writer fails.
+    pub(super) fn finish<W: Write>(
+        &mut self,
+        output: &mut W,
+        memo: &mut SymbolMemo,
+    ) -> Result<(), StreamFault> {
+        let before = self.before;
+        let text = self.bytes.as_slice();
+        let written = if before.starts_candidate(text) {
+            memo.write_candidate(text, before, output)
+        } else {
+            write_unchanged(text, output)
+        };
+        self.before = before.after(text);
+        self.bytes.clear();
+        written
     }
-    finish(pending, output, memo)?;
-    Ok(0)
-}
 
-/// Appends the bytes that continue the pending candidate, and returns their number. Writes the
-/// candidate's replacement if it ends before the chunk does. Fails if the writer fails or memory
-/// can't be allocated.
-fn extend_candidate<W: Write, A: Allocator>(
-    pending: &mut Pending<A>,
-    available: &[u8],
-    output: &mut W,
-    memo: &mut SymbolMemo,
-) -> Result<usize, StreamFault> {
-    let len = run_len(available);
-    buffer_bytes(&mut pending.bytes, &available[..len])?;
-    if len < available.len() {
-        finish(pending, output, memo)?;
+    /// Appends one byte to pending bytes that are no candidate and returns 1, if they may still
+    /// start one. Otherwise writes the pending bytes as plain text and returns 0. Fails if the
+    /// writer fails or memory can't be allocated.
+    fn extend_prefix<W: Write>(
+        &mut self,
+        available: &[u8],
+        output: &mut W,
+        memo: &mut SymbolMemo,
+    ) -> Result<usize, StreamFault> {
+        if extends_prefix(self.before, self.bytes.as_slice(), available[0]) {
+            buffer_bytes(&mut self.bytes, &available[..1])?;
+            return Ok(1);
+        }
+        self.finish(output, memo)?;
+        Ok(0)
     }
-    Ok(len)
-}
 
-/// Filters a chunk when nothing is pending, and returns how many bytes it used.
-///
-/// Writes everything up to the end of the first candidate. If the chunk ends inside a candidate, or
-/// may end with the start of one, that part becomes pending. The text before it is written. Fails
-/// if the writer fails or memory can't be allocated.
-fn filter_text<W: Write, A: Allocator>(
-    pending: &mut Pending<A>,
-    available: &[u8],
-    output: &mut W,
-    memo: &mut SymbolMemo,
-) -> Result<usize, StreamFault> {
-    let before = pending.before;
-    let Some(start) = run_start(available) else {
-        let place = available.len() - partial_prefix_len(available);
-        let (kept, beginning) = available.split_at(before.plain_len(&available[..place]));
-        // Buffered before anything is written. If memory can't be allocated, the caller can repeat
-        // the step.
-        buffer_bytes(&mut pending.bytes, beginning)?;
-        pending.before = before.after(kept);
+    /// Appends the bytes that continue the pending candidate, and returns their number. Writes the
+    /// candidate's replacement if it ends before the chunk does. Fails if the writer fails or
+    /// memory can't be allocated.
+    fn extend_candidate<W: Write>(
+        &mut self,
+        available: &[u8],
+        output: &mut W,
+        memo: &mut SymbolMemo,
+    ) -> Result<usize, StreamFault> {
+        let len = run_len(available);
+        buffer_bytes(&mut self.bytes, &available[..len])?;
+        if len < available.len() {
+            self.finish(output, memo)?;
+        }
+        Ok(len)
+    }
+
+    /// Filters a chunk when nothing is pending, and returns how many bytes it used.
+    ///
+    /// Writes everything up to the end of the first candidate. If the chunk ends inside a
+    /// candidate, or may end with the start of one, that part becomes pending. The text before it
+    /// is written. Fails if the writer fails or memory can't be allocated.
+    fn filter_text<W: Write>(
+        &mut self,
+        available: &[u8],
+        output: &mut W,
+        memo: &mut SymbolMemo,
+    ) -> Result<usize, StreamFault> {
+        let before = self.before;
+        let Some(start) = run_start(available) else {
+            let place = available.len() - partial_prefix_len(available);
+            let (kept, beginning) = available.split_at(before.plain_len(&available[..place]));
+            // Buffered before anything is written. If memory can't be allocated, the caller can
+            // repeat the step.
+            buffer_bytes(&mut self.bytes, beginning)?;
+            self.before = before.after(kept);
+            write_unchanged(kept, output)?;
+            return Ok(available.len());
+        };
+        let (kept, found) = available.split_at(before.plain_len(&available[..start]));
+        let len = run_len(found);
+        let before_found = before.after(kept);
+        if len == found.len() {
+            buffer_bytes(&mut self.bytes, found)?;
+            self.before = before_found;
+            write_unchanged(kept, output)?;
+            return Ok(available.len());
+        }
         write_unchanged(kept, output)?;
-        return Ok(available.len());
-    };
-    let (kept, found) = available.split_at(before.plain_len(&available[..start]));
-    let len = run_len(found);
-    let before_found = before.after(kept);
-    if len == found.len() {
-        buffer_bytes(&mut pending.bytes, found)?;
-        pending.before = before_found;
-        write_unchanged(kept, output)?;
-        return Ok(available.len());
+        let candidate = &found[..len];
+        memo.write_candidate(candidate, before_found, output)?;
+        self.before = before_found.after(candidate);
+        Ok(kept.len() + len)
     }
-    write_unchanged(kept, output)?;
-    let candidate = &found[..len];
-    write_candidate(candidate, before_found, output, memo)?;
-    pending.before = before_found.after(candidate);
-    Ok(kept.len() + len)
-}
 
-/// Filters a prefix of the available bytes, and returns its length. Writes all that is certain; an
-/// unfinished candidate stays pending. Fails if the writer fails or memory can't be allocated.
-pub(super) fn filter_chunk<W: Write, A: Allocator>(
-    pending: &mut Pending<A>,
-    available: &[u8],
-    output: &mut W,
-    memo: &mut SymbolMemo,
-) -> Result<usize, StreamFault> {
-    if pending.bytes.is_empty() {
-        return filter_text(pending, available, output, memo);
+    /// Filters a prefix of the available bytes, and returns its length. Writes all that is certain;
+    /// an unfinished candidate stays pending. Fails if the writer fails or memory can't be
+    /// allocated.
+    pub(super) fn filter_chunk<W: Write>(
+        &mut self,
+        available: &[u8],
+        output: &mut W,
+        memo: &mut SymbolMemo,
+    ) -> Result<usize, StreamFault> {
+        if self.bytes.is_empty() {
+            return self.filter_text(available, output, memo);
+        }
+        if self.before.starts_candidate(self.bytes.as_slice()) {
+            return self.extend_candidate(available, output, memo);
+        }
+        self.extend_prefix(available, output, memo)
     }
-    if pending.before.starts_candidate(pending.bytes.as_slice()) {
-        return extend_candidate(pending, available, output, memo);
-    }
-    extend_prefix(pending, available, output, memo)
 }

@@ -2,11 +2,11 @@
 //! Prints symbols into sinks, cut at a limit.
 
 use crate::demangle_sink::{SinkRefused, SizeLimitedFmtAdapter, TextSink, put_piece};
-use crate::rustc_demangle::format::Format;
+use crate::rustc_demangle::format::{Format, MAX_SIZE, TextFormat};
 use crate::rustc_demangle::strip::without_thin_lto;
 #[cfg(feature = "stream")]
 use crate::rustc_demangle::value::is_allowed;
-use crate::rustc_demangle::value::{Demangle, DemangleStyle, MAX_SIZE};
+use crate::rustc_demangle::value::{Demangle, DemangleStyle};
 
 #[cfg(feature = "stream")]
 use crate::demangle_v0::Printed;
@@ -15,9 +15,9 @@ use crate::demangle_v0::Printed;
 fn write_cut<S: TextSink>(
     style: &DemangleStyle<'_>,
     out: &mut S,
-    format: Format,
+    format: TextFormat,
 ) -> Result<(), SinkRefused> {
-    let mut limited = SizeLimitedFmtAdapter::with_references(out, format.limit, format.references);
+    let mut limited = SizeLimitedFmtAdapter::with_reread(out, format.limit, format.reread);
     let result = style.write_to(&mut limited, format);
     // Printing stops in the same way at the limit and if the sink fails. Only a sink that has not
     // failed gets the marker.
@@ -39,7 +39,7 @@ impl Demangle<'_> {
         let Some(style) = &self.style else {
             return put_piece(self.original, out);
         };
-        write_cut(style, out, format)?;
+        write_cut(style, out, format.for_text(self.original.len()))?;
         put_piece(self.suffix, out)
     }
 
@@ -135,7 +135,7 @@ const MOST_TEXT: usize = 1600;
 /// Returns the most bytes of the path of a run that is printed at once.
 #[cfg(feature = "stream")]
 #[cfg_attr(not(debug_assertions), inline(always))]
-fn text_limit(run: &str, format: Format) -> usize {
+fn text_limit(run: &str, format: TextFormat) -> usize {
     let most = run
         .len()
         .saturating_mul(TIMES_RUN)
@@ -156,8 +156,8 @@ pub(crate) enum Tried<'a> {
     Unknown,
 }
 
-/// Prints a v0 run before it is known to be a symbol, as `demangle_v0::demangle_printed` does up to
-/// the end of its validation. A run is ASCII. Returns what is known of it then.
+/// Prints a v0 run before it is known to be a symbol, as `demangle_v0::demangle_printed` does. A
+/// run is ASCII. Returns what is known of it then.
 ///
 /// Nothing is known of a path that is much longer than the run.
 #[cfg(feature = "stream")]
@@ -168,9 +168,10 @@ pub(crate) fn print_v0_run<'a, S: TextSink>(
     format: Format,
 ) -> Tried<'a> {
     let text = without_thin_lto(run);
-    let limit = text_limit(run, format);
-    let mut limited = SizeLimitedFmtAdapter::with_references(out, limit, format.references);
-    match crate::demangle_v0::demangle_printed(text, &mut limited, format.form) {
+    let limits = format.for_text(text.len());
+    let limit = text_limit(run, limits);
+    let mut limited = SizeLimitedFmtAdapter::with_reread(out, limit, limits.reread);
+    match crate::demangle_v0::demangle_printed(text, &mut limited, limits.form) {
         Printed::Symbol(symbol, suffix) => {
             let allowed = is_allowed(suffix);
             if allowed && put_piece(suffix, out).is_ok() {
@@ -206,8 +207,9 @@ pub(crate) fn print_v0_run<'a, S: TextSink>(
 #[inline(never)]
 pub(crate) fn print_legacy_run<S: TextSink>(run: &str, out: &mut S, format: Format) -> bool {
     let text = without_thin_lto(run);
-    let mut limited = SizeLimitedFmtAdapter::new(out, format.limit);
-    let read = crate::demangle_legacy::demangle_printed(text, &mut limited, format.form);
+    let limits = format.for_text(text.len());
+    let mut limited = SizeLimitedFmtAdapter::new(out, limits.limit);
+    let read = crate::demangle_legacy::demangle_printed(text, &mut limited, limits.form);
     let Some((_, suffix)) = read else {
         return false;
     };
@@ -232,7 +234,7 @@ fn write_pieces_with_path_len<S: TextSink>(
     // The caller may pass any number.
     let suffix = &text[path_len.min(text.len())..];
     let style = DemangleStyle::V0(symbol);
-    write_cut(&style, out, format)?;
+    write_cut(&style, out, format.for_text(text.len()))?;
     put_piece(suffix, out)
 }
 

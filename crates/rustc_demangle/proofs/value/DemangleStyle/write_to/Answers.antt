@@ -1,10 +1,10 @@
-use Rattle.rustc_demangle.specs.Symbols.{form_of}
+use Rattle.rustc_demangle.specs.Shape.{limited}
 use Rattle.rustc_demangle.proofs.AllReferences.{few_legacy, up_to}
 use Rattle.rustc_demangle.proofs.value.DemangleStyle.write_to.Goals as goal
 
 pub returns-in-V0-clause-prints : goal.returns-in-V0-clause-prints
 returns-in-V0-clause-prints g c =
-    rw c.in-V0.is (up_to g.S.TextSink c.args.out.now c.write_to-in-V0.new.out c.in-V0.symbol (form_of c.args.format) c.write_to-in-V0.result c.requires.same
+    rw c.in-V0.is (up_to g.S.TextSink c.args.out.now c.write_to-in-V0.new.out c.in-V0.symbol (limited c.args.format) c.write_to-in-V0.result c.requires.same
     c.write_to-in-V0.ensures.prints)
 
 pub returns-in-V0-clause-most : goal.returns-in-V0-clause-most
@@ -14,4 +14,4 @@ pub returns-in-V0-clause-few : goal.returns-in-V0-clause-few
 returns-in-V0-clause-few g c = rw c.in-V0.is (rw c.requires.same at c.write_to-in-V0.ensures.few)
 
 pub returns-in-Legacy-clause-few : goal.returns-in-Legacy-clause-few
-returns-in-Legacy-clause-few g c = rw c.in-Legacy.is (few_legacy c.args.format.references _ _ _ c.write_to.ensures.most)
+returns-in-Legacy-clause-few g c = rw c.in-Legacy.is (few_legacy c.args.format.reread _ _ _ c.write_to.ensures.most)

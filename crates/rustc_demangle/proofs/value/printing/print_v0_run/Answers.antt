@@ -1,26 +1,31 @@
 use Rattle.std.specs.Prelude.{IsAscii}
 use Rattle.std.specs.List.{concat}
-use Rattle.std.proofs.Common.{◌≡◌, ◌≤◌, ℕ, Bool, true, List, [], ◌∷◌, ◌++◌, Result, Ok, Err, is_ok, OnOk, Some, length, arith, refl, sym, subst, ap, ◌∙◌, inr, rules}
+use Rattle.std.proofs.Common.{◌≡◌, ◌≤◌, ℕ, ◌+◌, ◌*◌, Bool, true, List, [], ◌∷◌, ◌++◌, Result, Ok, Err, is_ok, OnOk, Some, length, arith, refl, sym, subst, ap, ◌∙◌, inr, rules}
 use Rattle.std.proofs.lemmas.Bool.{false≢true}
 use Rattle.demangle_legacy.specs.Legacy.{elements_of}
-use Rattle.rustc_demangle.specs.Shape.{is_all, marked_unless, path_texts, texts_within}
+use Rattle.rustc_demangle.specs.Shape.{is_all, limited, marked_unless, path_texts, texts_within}
 use Rattle.demangle_v0_grammar.specs.V0.{v0_of}
 use Rattle.demangle_v0_grammar.proofs.V0Reading.{read_is_v0}
 use Rattle.demangle_sink.specs.Cut.{cut, size}
 use Rattle.demangle_sink.specs.declared.SinkRefused.{SinkRefused}
-use Rattle.demangle_sink.specs.Limit.{PrintsUpTo}
+use Rattle.demangle_sink.specs.Limit.{PrintsUpTo, unused}
+use Rattle.demangle_sink.specs.declared.limit.Reread.{Reread}
 use Rattle.demangle_sink.proofs.PutsPiecesLemmas.{puts_then, puts_text}
 use Rattle.demangle_sink.proofs.PrintsLemmas.{cut-within, cut_all}
 use Rattle.rustc_demangle.specs.Filtered.{replacement_in}
+use Rattle.rustc_demangle.specs.Limits.{text_format}
 use Rattle.rustc_demangle.specs.Stripped.{is_allowed, stripped}
-use Rattle.rustc_demangle.specs.Symbols.{IsSymbol, form_of}
+use Rattle.rustc_demangle.specs.Symbols.{IsSymbol, form_in, limit_in}
 use Rattle.rustc_demangle.specs.declared.format.Format.{Format}
+use Rattle.rustc_demangle.specs.declared.format.TextFormat.{TextFormat}
 use Rattle.rustc_demangle.proofs.RunStarts.{all_ascii}
 use Rattle.rustc_demangle.proofs.MemoLemmas.{symbol_replaced}
 use Rattle.rustc_demangle.proofs.PrintingLaws.{handed-some_of}
 use Rattle.rustc_demangle.proofs.Stripping.{IsAscii-stripped, stripped-shorter}
 use Rattle.rustc_demangle.proofs.SymbolLemmas.{pieces-v0, suffix-shorter}
 use Rattle.rustc_demangle.proofs.AllReferences.{up_to, up_to_all}
+use Rattle.rustc_demangle.proofs.LinearLooks.{few_linear}
+use Rattle.rustc_demangle.specs.LinearLooks.{PrintsLinear}
 use Rattle.rustc_demangle.proofs.value.printing.print_v0_run.Goals as goal
 
 -- pieces within the lower limit are cut at neither
@@ -29,9 +34,9 @@ same_cut xs most limit within lower = cut-within xs most within ∙ sym (cut-wit
 
 -- the text that a v0 symbol prints replaces its run
 v0_replaced : (run text inner suffix : List ℕ) (format : Format) → text ≡ stripped run → v0_of text ≡ Some (inner, suffix) → is_allowed suffix ≡ true
-    → concat (cut (path_texts inner (form_of format)) format.limit ++ suffix ∷ []) ≡ replacement_in format run
+    → concat (cut (path_texts inner (form_in format text)) (limit_in format text) ++ suffix ∷ []) ≡ replacement_in format run
 v0_replaced run text inner suffix format same read allowed =
-    let whole = handed-some_of text format (path_texts inner (form_of format), suffix) (pieces-v0 (form_of format) text inner suffix read allowed) in
+    let whole = handed-some_of text format (path_texts inner (form_in format text), suffix) (pieces-v0 (form_in format text) text inner suffix read allowed) in
     let is : IsSymbol text = inr (inner, suffix, read_is_v0 text inner suffix read, allowed) in
     sym (ap concat whole) ∙ symbol_replaced run text format same is
 
@@ -52,24 +57,25 @@ returns-then-is_ok-clause-took g c = λ _.
     let inner = c.in-Symbol.symbol in
     let suffix = c.in-Symbol.suffix.now in
     let put = c.put_piece.result in
-    let form = form_of c.args.format in
+    let form = limited c.for_text-limits.result in
     let texts = texts_within inner form in
-    let up = up_to g.S.TextSink c.with_references-limited.result printed inner form (Ok tt) c.with_references-limited.ensures.references c.in-Symbol.ensures.known.1 in
-    let all : is_all inner form ≡ true = up_to_all g.S.TextSink c.with_references-limited.result printed texts (is_all inner form) up in
-    let prints = subst (λ (b : Bool). PrintsUpTo g.S.TextSink c.with_references-limited.result texts b (Ok tt) printed) all up in
+    let up = up_to g.S.TextSink c.with_reread-limited.result printed inner form (Ok tt) c.with_reread-limited.ensures.reread c.in-Symbol.ensures.known.1 in
+    let all : is_all inner form ≡ true = up_to_all g.S.TextSink c.with_reread-limited.result printed texts (is_all inner form) up in
+    let prints = subst (λ (b : Bool). PrintsUpTo g.S.TextSink c.with_reread-limited.result texts b (Ok tt) printed) all up in
     let both =
     puts_then g.S.TextSink c.args.out.now _ c.put_piece.new.out _ (suffix ∷ []) (Ok tt) put
-    (cut_all g.S.TextSink c.with_references-limited.result printed _ _ _ texts true (Ok tt) c.with_references-limited.ensures.text c.with_references-limited.ensures.left prints (prints.open_ refl) (search rules))
+    (cut_all g.S.TextSink c.with_reread-limited.result printed _ _ _ texts true (Ok tt) c.with_reread-limited.ensures.text c.with_reread-limited.ensures.left prints (prints.open_ refl) (search rules))
     refl c.put_piece.ensures in
     let took = puts_text g.S.TextSink c.args.out.now c.put_piece.new.out _ put laws.took_nothing laws.took_joined both in
-    let within : size texts ≤ c.text_limit-limit.result = omega (arith, prints.within refl, c.with_references-limited.ensures.left) in
+    let within : size texts ≤ c.text_limit-limit.result = omega (arith, prints.within refl, c.with_reread-limited.ensures.left) in
     let whole_texts : texts ≡ path_texts inner form = ap (λ (b : Bool). marked_unless b texts) (sym all) in
-    let limited =
-    same_cut texts c.text_limit-limit.result c.args.format.limit within c.text_limit-limit.ensures
-    ∙ ap (λ (xs : List (List ℕ)). cut xs c.args.format.limit) whole_texts in
+    let cut_so =
+    same_cut texts c.text_limit-limit.result c.for_text-limits.result.limit within c.text_limit-limit.ensures
+    ∙ (ap (λ (xs : List (List ℕ)). cut xs c.for_text-limits.result.limit) whole_texts
+    ∙ ap (λ (f : TextFormat). cut (path_texts inner (limited f)) f.limit) c.for_text-limits.ensures) in
     let allowed = sym c.is_allowed-allowed.ensures.allowed ∙ c.if-allowed.true in
     let whole = v0_replaced c.args.run.now c.without_thin_lto-text.result.now inner suffix c.args.format c.without_thin_lto-text.ensures c.in-Symbol.ensures.known.0 allowed in
-    let text = ap (λ (pieces : List (List ℕ)). concat (pieces ++ suffix ∷ [])) limited ∙ whole in
+    let text = ap (λ (pieces : List (List ℕ)). concat (pieces ++ suffix ∷ [])) cut_so ∙ whole in
     subst (λ t. g.S.TextSink.took c.args.out.now t c.put_piece.new.out) text (when_ok put (sym c.is_ok.ensures.value ∙ c.if-is_ok.true) took)
 
 pub returns-then-is_ok-clause-most : goal.returns-then-is_ok-clause-most
@@ -101,3 +107,34 @@ returns-in-Unknown-clause-most g c =
 pub returns-in-Unknown-clause-early : goal.returns-in-Unknown-clause-early
 returns-in-Unknown-clause-early g c = λ _.
     omega (arith, c.in-Unknown.ensures.early refl, ap length c.without_thin_lto-text.ensures, stripped-shorter c.args.run.now)
+
+-- the looks of printing a text, whose limit is that of the adapter
+few_of : (format : Format) (run text : List ℕ) (limits : TextFormat) (allowed : Reread) (old new : ℕ) → text ≡ stripped run → limits ≡ text_format format (length text) → allowed ≡ unused limits.reread
+    → ((k : ℕ) → allowed.most ≡ Some k → new ≤ old + 20 * (length text + 1 + k)) → PrintsLinear format 1 (length run) old new
+few_of format run text limits allowed old new stripped_so so same few =
+    few_linear format (length text) (length run) old new (omega (arith, ap length stripped_so, stripped-shorter run))
+    (λ k e. few k (ap (λ (r : Reread). r.most) same ∙ (ap (λ (f : TextFormat). f.reread) so ∙ e)))
+
+pub returns-then-is_ok-clause-prints : goal.returns-then-is_ok-clause-prints
+returns-then-is_ok-clause-prints g c =
+    few_of c.args.format c.args.run.now c.without_thin_lto-text.result.now c.for_text-limits.result _ _ _ c.without_thin_lto-text.ensures c.for_text-limits.ensures c.with_reread-limited.ensures.reread c.in-Symbol.ensures.few
+
+pub returns-else-allowed-clause-prints : goal.returns-else-allowed-clause-prints
+returns-else-allowed-clause-prints g c =
+    few_of c.args.format c.args.run.now c.without_thin_lto-text.result.now c.for_text-limits.result _ _ _ c.without_thin_lto-text.ensures c.for_text-limits.ensures c.with_reread-limited.ensures.reread c.in-Symbol.ensures.few
+
+pub returns-in-Part-clause-prints : goal.returns-in-Part-clause-prints
+returns-in-Part-clause-prints g c =
+    few_of c.args.format c.args.run.now c.without_thin_lto-text.result.now c.for_text-limits.result _ _ _ c.without_thin_lto-text.ensures c.for_text-limits.ensures c.with_reread-limited.ensures.reread c.in-Part.ensures.few
+
+pub returns-in-Ok-clause-prints : goal.returns-in-Ok-clause-prints
+returns-in-Ok-clause-prints g c =
+    few_of c.args.format c.args.run.now c.without_thin_lto-text.result.now c.for_text-limits.result _ _ _ c.without_thin_lto-text.ensures c.for_text-limits.ensures c.with_reread-limited.ensures.reread c.in-NoSymbol.ensures.few
+
+pub returns-in-Err-clause-prints : goal.returns-in-Err-clause-prints
+returns-in-Err-clause-prints g c =
+    few_of c.args.format c.args.run.now c.without_thin_lto-text.result.now c.for_text-limits.result _ _ _ c.without_thin_lto-text.ensures c.for_text-limits.ensures c.with_reread-limited.ensures.reread c.in-NoSymbol.ensures.few
+
+pub returns-in-Unknown-clause-prints : goal.returns-in-Unknown-clause-prints
+returns-in-Unknown-clause-prints g c =
+    few_of c.args.format c.args.run.now c.without_thin_lto-text.result.now c.for_text-limits.result _ _ _ c.without_thin_lto-text.ensures c.for_text-limits.ensures c.with_reread-limited.ensures.reread c.in-Unknown.ensures.few

@@ -206,5 +206,4 @@ pub returns-in-Field-clause-performs : goal.returns-in-Field-clause-performs
 returns-in-Field-clause-performs g c = alone (rw c.in-Field.is c.out_of_line-in-Field.ensures.performs)
 
 pub returns-in-AfterBackref-clause-performs : goal.returns-in-AfterBackref-clause-performs
-returns-in-AfterBackref-clause-performs g c = alone (rw c.in-AfterBackref.is (advanced g.V.Output c.args.output.now continuation.AfterBackref
-    c.after_backref.ensures.performs))
+returns-in-AfterBackref-clause-performs g c = alone (rw c.in-AfterBackref.is c.after_backref.ensures.performs)

@@ -1,5 +1,5 @@
-use Rattle.std.proofs.Common.{◌≡◌, ◌+◌, ◌<◌, Bool, true, not, ◌||◌, Some, None, Result, Ok, Err, IsOk, IsErr, false, length, arith, refl, sym, subst, ap, ◌∙◌, length-append}
-use Rattle.std.proofs.lemmas.Bool.{false≢true, leb-false}
+use Rattle.std.proofs.Common.{◌≡◌, ◌+◌, ◌<◌, Bool, true, not, ◌&&◌, ◌||◌, Some, None, Result, Ok, Err, IsOk, IsErr, false, length, arith, refl, sym, subst, ap, ◌∙◌, length-append}
+use Rattle.std.proofs.lemmas.Bool.{false≢true, eqb-true, leb-false, not-true}
 use Rattle.demangle_symbol.specs.Primitives.{byte_at, namespace_at, is_upper}
 use Rattle.demangle_v0_tokens.specs.declared.fixed_texts.FixedText.TheVariants as fixed
 use Rattle.demangle_v0.specs.Parsers.{all_of}
@@ -15,7 +15,7 @@ use Rattle.demangle_v0.specs.declared.parser.parse.Parser.{Parser}
 use Rattle.demangle_v0.proofs.Pace.{place_left}
 use Rattle.demangle_v0.proofs.StepErrors.{stops}
 use Rattle.demangle_v0.proofs.StepCases.{after_error}
-use Rattle.demangle_v0.proofs.NestedNames.{Deep, begins, begins_more, crate_last, deep_alone, deep_crate, deep_last, deep_nested, deep_other, deep_too_deep, deep_unnamed, deep_untagged, frames_length, performs_one}
+use Rattle.demangle_v0.proofs.NestedNames.{Deep, backref_inner, begins, begins_more, crate_inner, in_crate, inner_last, deep_alone, deep_crate, deep_last, deep_nested, deep_other, deep_too_deep, deep_unnamed, deep_untagged, frames_length, performs_one}
 use Rattle.demangle_v0.proofs.parser.parse.Parser.path.Given.{Over}
 use Rattle.demangle_v0.proofs.parser.parse.Parser.path.Goals as goal
 
@@ -74,8 +74,8 @@ returns-then-tag-eq67-clause-performs g c =
     let m = c.args.self.now in
     let tag : Some (67, c.in-Ok.next) ≡ byte_at m.source.symbol.now c.paths.at = rw (c.paths.invariant.parser, c.in-Ok.is, c.if-tag-eq67.true) at c.tag.ensures.read in
     let k = c.crate_name-performed in
-    crate_last g.V.Output m k.new.self c.names_after.new.self c.args.output.now k.new.output c.names_after.new.output m.state.depth_left c.paths.count c.paths.at c.in-Ok.next c.paths.self.looks c.tag.new.looks k.result c.names_after.result c.paths.invariant.ran (omega (arith, c.paths-test.true)) tag c.tag.ensures.look
-    (rw (c.paths.invariant.parser, c.paths.invariant.output) at k.ensures.performs) (rw c.paths.invariant.parser at k.ensures.placed) c.names_after.ensures.follow
+    inner_last g.V.Output m k.new.self c.names_after.new.self c.args.output.now k.new.output c.names_after.new.output m.state.depth_left c.paths.count c.paths.at 67 c.in-Ok.next c.paths.self.looks c.tag.new.looks k.result c.names_after.result c.paths.invariant.ran (omega (arith, c.paths-test.true)) tag c.tag.ensures.look
+    (crate_inner g.V.Output (in_crate g.V.Output m m.state.depth_left c.paths.count c.in-Ok.next c.tag.new.looks) k.new.self c.args.output.now k.new.output k.result (rw (c.paths.invariant.parser, c.paths.invariant.output) at k.ensures.performs)) (rw c.paths.invariant.parser at k.ensures.placed) c.names_after.ensures.follow
 
 pub returns-then-tag-eq67-clause-paced : goal.returns-then-tag-eq67-clause-paced
 returns-then-tag-eq67-clause-paced g c = λ ok.
@@ -109,6 +109,25 @@ returns-then-tag-eq67-clause-own_looks g c =
 
 pub returns-then-tag-eq67-clause-single : goal.returns-then-tag-eq67-clause-single
 returns-then-tag-eq67-clause-single g c z = absurd (c.if-count-eq0.false (c.paths.invariant.alone z).0)
+
+-- A back reference, without output.
+
+both_true : (x y : Bool) → x && y ≡ true → (x ≡ true) × (y ≡ true)
+both_true true y h = (refl, h)
+both_true false y h = absurd (false≢true h)
+
+pub returns-then-tag-count-clause-performs : goal.returns-then-tag-count-clause-performs
+returns-then-tag-count-clause-performs g c =
+    let m = c.args.self.now in
+    let all = both_true _ _ c.if-tag-count.true in
+    let two = both_true _ _ all.0 in
+    let hidden : g.V.Output.is_printed ≡ false = sym c.is_printing.ensures ∙ not-true _ all.1 in
+    let is_reference : c.in-Ok.tag ≡ 66 = eqb-true c.in-Ok.tag 66 two.0 in
+    let tag : Some (66, c.in-Ok.next) ≡ byte_at m.source.symbol.now c.paths.at = rw (c.paths.invariant.parser, c.in-Ok.is, is_reference) at c.tag.ensures.read in
+    let k = c.follow_backref-performed in
+    let names = c.names_after-then-tag-count in
+    inner_last g.V.Output m k.new.self names.new.self c.args.output.now k.new.output names.new.output m.state.depth_left c.paths.count c.paths.at 66 c.in-Ok.next c.paths.self.looks c.tag.new.looks k.result names.result c.paths.invariant.ran (omega (arith, c.paths-test.true)) tag c.tag.ensures.look
+    (backref_inner g.V.Output (in_crate g.V.Output m m.state.depth_left c.paths.count c.in-Ok.next c.tag.new.looks) k.new.self c.args.output.now k.new.output k.result (rw (c.paths.invariant.parser, c.paths.invariant.output) at k.ensures.performs)) (rw c.paths.invariant.parser at k.ensures.placed hidden) names.ensures.follow
 
 -- Another path.
 
@@ -218,3 +237,10 @@ pub returns-clause-single : goal.returns-clause-single
 returns-clause-single g c z =
     let alone = c.paths.invariant.alone z in
     rw c.paths.invariant.output (deep_alone g.V.Output c.args.self.now c.push_names-2.new.self c.args.output.now c.args.output.now c.args.self.now.state.depth_left c.paths.count c.paths.at c.paths.self.looks (Err (Abort fixed.Recursion)) refl alone.0 alone.1 alone.2 (rw (c.push_names-2.ensures, c.paths.invariant.parser) (refl, refl, refl)) (too-deep-clause-performs g c))
+
+pub names_after-requires-then-tag-count-clause-ready : goal.names_after-requires-then-tag-count-clause-ready
+names_after-requires-then-tag-count-clause-ready g c = λ ok.
+    let m = c.args.self.now in
+    let k = c.follow_backref-performed in
+    let d = backref_inner g.V.Output (in_crate g.V.Output m m.state.depth_left c.paths.count c.in-Ok.next c.tag.new.looks) k.new.self c.args.output.now k.new.output k.result (rw (c.paths.invariant.parser, c.paths.invariant.output) at k.ensures.performs) in
+    d.does.ready c.requires.can_step.ready ok

@@ -1,0 +1,115 @@
+-- Looks with a linear limit of the bytes that are read again.
+use Prim.Native.Nat.{min}
+use Rattle.std.specs.Prelude.{[]}
+use Rattle.std.proofs.Common.{◌≡◌, ℕ, ◌+◌, ◌*◌, ◌≤◌, ◌<◌, List, length, take, drop, length-append, Option, Some, None, IfSome, arith, refl, ap}
+use Rattle.std.proofs.Math.Nat.{min-le_right}
+use Rattle.std.proofs.lemmas.List.{length-take}
+use Rattle.std.proofs.KnownBytes.{starts_with_rest}
+use Rattle.std.specs.Io.{StartsWith}
+use Rattle.std.specs.Io.KnownBytes.{Consumes}
+use Rattle.demangle_symbol.specs.declared.cursor.looks.RunLooks.{RunLooks}
+use Rattle.rustc_demangle.specs.ByteStream.{Unwritten, from_start, IsWriting, ChunkFailed}
+use Rattle.rustc_demangle.specs.Limits.{reread_within, text_format}
+use Rattle.rustc_demangle.specs.LinearLooks.{LooksPaid, LooksLinear, NoLooksUnread, PrintsLinear, StepPaid}
+use Rattle.rustc_demangle.specs.Stripped.{stripped}
+use Rattle.rustc_demangle.specs.Symbols.{PrintingLooksIn}
+use Rattle.rustc_demangle.specs.declared.format.Format.{Format}
+use Rattle.rustc_demangle.specs.declared.stream.fault.StreamFault.{StreamFault}
+use Rattle.rustc_demangle.specs.declared.stream.fault.StreamFault.TheVariants.{Read, NotUtf8, Write, Memory}
+use Rattle.rustc_demangle.proofs.Stripping.{stripped-shorter}
+
+-- the bytes of a text of n bytes that are read again bound the looks of printing it, and so do those of a longer one
+pub few_linear : (format : Format) (n m old new : ℕ) → n ≤ m → ((k : ℕ) → (text_format format n).reread ≡ Some k → new ≤ old + 20 * (n + 1 + k)) → PrintsLinear format 1 m old new
+few_linear format n m old new within few = λ e.
+    let low : min 384000000 (384 * n) ≤ 384 * n = min-le_right 384000000 (384 * n) in
+    let some : new ≤ old + 20 * (n + 1 + min 384000000 (384 * n)) = few (min 384000000 (384 * n)) (ap (λ r. reread_within r n) e) in
+    omega (arith, some, low, within)
+
+pub prints_linear : (format : Format) (text run : List ℕ) (old new : ℕ) → text ≡ stripped run → PrintingLooksIn text format old new → PrintsLinear format 1 (length run) old new
+prints_linear format text run old new same looks = few_linear format (length text) (length run) old new (omega (arith, ap length same, stripped-shorter run)) looks.few
+
+-- Filtering in parts.
+
+-- a part of what was left makes no more looks than it pays for
+pub paid_step : (format : Format) (all rest part following : ℕ) (first mid new : RunLooks) → part + following ≤ rest → LooksPaid format all rest first mid → LooksLinear format part mid new → LooksPaid format all following first new
+paid_step format all rest part following first mid new within p q = λ e. omega (arith, within, p e, q e)
+
+-- the same if what is left is not filtered
+pub paid_lost : (format : Format) (all rest part : ℕ) (first mid new : RunLooks) → part ≤ rest → LooksPaid format all rest first mid → LooksLinear format part mid new → LooksLinear format all first new
+paid_lost format all rest part first mid new within p q = λ e. omega (arith, within, p e, q e)
+
+pub paid_all : (format : Format) (all rest : ℕ) (first mid : RunLooks) → LooksPaid format all rest first mid → LooksLinear format all first mid
+paid_all format all rest first mid p = λ e. omega (arith, p e)
+
+-- reading and printing a run
+pub run_linear : (format : Format) (n : ℕ) (old new : RunLooks) → 0 < n → new.accepting_looks ≤ old.accepting_looks + 213 * (n + 1) → PrintsLinear format 3 n old.printing_looks new.printing_looks → LooksLinear format n old new
+run_linear format n old new some most prints = λ e. omega (arith, some, most, prints e)
+
+pub prints_once : (format : Format) (n old new : ℕ) → PrintsLinear format 1 n old new → PrintsLinear format 3 n old new
+prints_once format n old new p = λ e. omega (arith, p e)
+
+pub prints_twice : (format : Format) (n old new : ℕ) → PrintsLinear format 2 n old new → PrintsLinear format 3 n old new
+prints_twice format n old new p = λ e. omega (arith, p e)
+
+-- Steps of a filter.
+
+-- one step, by the available bytes and the number of those that were used
+pub step_paid : (format : Format) (a next available : List ℕ) (n : ℕ) (left rest : Option (List ℕ)) (old new : RunLooks) → n ≤ length available → Consumes left rest (take n available)
+    → LooksPaid format (length a + n) (length next) old new → IfSome left (λ xs. IfSome rest (λ ys. LooksPaid format (length a + length xs) (length next + length ys) old new))
+step_paid format a next available n None rest old new within took p = tt
+step_paid format a next available n (Some xs) None old new within took p = tt
+step_paid format a next available n (Some xs) (Some ys) old new within took p = λ e. omega (arith, within, p e, ap length took, length-append (take n available) ys, length-take n available)
+
+-- the same if what is left is not filtered
+pub step_lost : (format : Format) (a available : List ℕ) (left : Option (List ℕ)) (old new : RunLooks) → IfSome left (λ xs. StartsWith xs available)
+    → LooksLinear format (length a + length available) old new → IfSome left (λ xs. LooksLinear format (length a + length xs) old new)
+step_lost format a available None old new front p = tt
+step_lost format a available (Some xs) old new front p = λ e. omega (arith, p e, ap length (starts_with_rest xs available front), length-append available (drop (length available) xs))
+
+-- if the contents of the whole input are known, so are those that are left
+abbrev pub BothKnown : (held left : Option (List ℕ)) → Type 0
+BothKnown held left = IfSome held (λ _. (xs : List ℕ) × (left ≡ Some xs))
+
+some_none : (xs : List ℕ) → None ≡ Some xs → ⊥
+some_none xs e = cc
+
+pub paid_first : (format : Format) (pending : Unwritten) (held : Option (List ℕ)) (looks : RunLooks) → pending ≡ from_start [] → StepPaid format (from_start []) pending held held looks looks
+paid_first format pending None looks same = tt
+paid_first format pending (Some xs) looks same = λ e. omega (arith, ap (λ (u : Unwritten). length u.bytes) same)
+
+pub paid_join : (format : Format) (a b c : Unwritten) (held left rest : Option (List ℕ)) (first mid new : RunLooks) → BothKnown held left → StepPaid format a b held left first mid → StepPaid format b c left rest mid new → StepPaid format a c held rest first new
+paid_join format a b c None left rest first mid new both p q = tt
+paid_join format a b c (Some xs) None rest first mid new both p q = absurd (some_none both.0 both.1)
+paid_join format a b c (Some xs) (Some ys) None first mid new both p q = tt
+paid_join format a b c (Some xs) (Some ys) (Some zs) first mid new both p q = λ e. omega (arith, p e, q e)
+
+pub paid_last : (format : Format) (b : Unwritten) (held left : Option (List ℕ)) (first mid new : RunLooks) → BothKnown held left → StepPaid format (from_start []) b held left first mid
+    → IfSome left (λ xs. LooksLinear format (length b.bytes + length xs) mid new) → IfSome held (λ text. LooksLinear format (length text) first new)
+paid_last format b None left first mid new both p q = tt
+paid_last format b (Some xs) None first mid new both p q = absurd (some_none both.0 both.1)
+paid_last format b (Some xs) (Some ys) first mid new both p q = λ e. omega (arith, p e, q e)
+
+pub paid_stop : (format : Format) (b : Unwritten) (held left : Option (List ℕ)) (first mid : RunLooks) → BothKnown held left → StepPaid format (from_start []) b held left first mid → IfSome held (λ text. LooksLinear format (length text) first mid)
+paid_stop format b None left first mid both p = tt
+paid_stop format b (Some xs) None first mid both p = absurd (some_none both.0 both.1)
+paid_stop format b (Some xs) (Some ys) first mid both p = λ e. omega (arith, p e)
+
+-- Errors.
+
+pub no_looks : (fault : StreamFault) (looks : RunLooks) → NoLooksUnread fault looks looks
+no_looks (Read e) looks = refl
+no_looks NotUtf8 looks = tt
+no_looks (Write e) looks = tt
+no_looks Memory looks = tt
+
+pub writing_unread : (fault : StreamFault) (old new : RunLooks) → IsWriting fault → NoLooksUnread fault old new
+writing_unread (Read e) old new is = absurd is
+writing_unread NotUtf8 old new is = tt
+writing_unread (Write e) old new is = tt
+writing_unread Memory old new is = tt
+
+pub chunk_unread : (fault : StreamFault) (pending next : Unwritten) (before after : Option (List ℕ)) (old new : RunLooks) → ChunkFailed fault pending next before after → NoLooksUnread fault old new
+chunk_unread (Read e) pending next before after old new failed = absurd failed
+chunk_unread NotUtf8 pending next before after old new failed = tt
+chunk_unread (Write e) pending next before after old new failed = tt
+chunk_unread Memory pending next before after old new failed = tt

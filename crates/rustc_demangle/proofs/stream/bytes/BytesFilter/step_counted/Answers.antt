@@ -1,0 +1,26 @@
+use Rattle.std.proofs.Common.{subst}
+use Rattle.std.specs.Io.BufRead.{FillKeeps}
+use Rattle.std.proofs.BufReadLemmas.{Consumes_shown}
+use Rattle.rustc_demangle.proofs.ByteStreamLemmas.{step_took}
+use Rattle.rustc_demangle.proofs.LinearLooks.{step_paid, step_lost}
+use Rattle.rustc_demangle.proofs.stream.bytes.BytesFilter.step_counted.Goals as goal
+
+pub returns-clause-took : goal.returns-clause-took
+returns-clause-took g c = λ _.
+    let rested = c.fill_buf.follows.lender-at-none in
+    let filled = subst (FillKeeps _ (g.R.Read.remaining rested) (g.R.BufRead.consumable_len rested)) c.in-Ok.is c.fill_buf.follows.holds-at-none in
+    let moved = Consumes_shown _ _ _ _ c.in-Ok.available.now c.in_ok-taken.taken c.in_ok-taken.ensures.bound c.in-Ok.ensures.front c.in-Ok.ensures.end filled.0 filled.1 c.consume.ensures.bytes in
+    rw (← c.self.view_is) (step_took _ _ _ _ _ _ _ _ _ c.in_ok-taken.ensures.bound c.in_ok-taken.ensures.less c.in-Ok.ensures.front moved.0 c.in_ok-taken.ensures.ok)
+
+pub returns-clause-paid : goal.returns-clause-paid
+returns-clause-paid g c =
+    let rested = c.fill_buf.follows.lender-at-none in
+    let filled = subst (FillKeeps _ (g.R.Read.remaining rested) (g.R.BufRead.consumable_len rested)) c.in-Ok.is c.fill_buf.follows.holds-at-none in
+    let moved = Consumes_shown _ _ _ _ c.in-Ok.available.now c.in_ok-taken.taken c.in_ok-taken.ensures.bound c.in-Ok.ensures.front c.in-Ok.ensures.end filled.0 filled.1 c.consume.ensures.bytes in
+    rw (← c.self.view_is) (step_paid c.args.memo.now _ _ c.in-Ok.available.now c.in_ok-taken.taken _ _ _ _ c.in_ok-taken.ensures.bound moved.0 c.in_ok-taken.ensures.paid)
+
+pub returns-clause-linear : goal.returns-clause-linear
+returns-clause-linear g c = rw (← c.self.view_is) (step_lost c.args.memo.now _ c.in-Ok.available.now _ _ _ c.in-Ok.ensures.front c.in_ok-taken.ensures.lost)
+
+pub returns-in_err-taken-clause-linear : goal.returns-in_err-taken-clause-linear
+returns-in_err-taken-clause-linear g c = rw (← c.self.view_is) (step_lost c.args.memo.now _ c.in-Ok.available.now _ _ _ c.in-Ok.ensures.front c.in_err-taken.ensures.lost)
