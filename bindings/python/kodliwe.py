@@ -24,7 +24,9 @@ UTF-8 or not. The calls may be made from any thread. ``python3 -m kodliwe --help
 import ctypes
 import ctypes.util
 import functools
+import mmap
 import os
+import re
 import sys
 import threading
 from typing import Any, AnyStr, Callable, Iterator, List, NamedTuple, Optional, Tuple, Union
@@ -35,9 +37,19 @@ __version__ = "0.1.0"
 #: The most bytes that are printed for a symbol, before ``{size limit reached}`` and its suffix.
 MAX_SIZE = 1_000_000
 
+# Says to the library that no limit is given.
+_NO_LIMIT = ctypes.c_size_t(-1).value
 _NAMES = ("libkodliwe.so", "libkodliwe.so.0", "libkodliwe.so." + __version__, "libkodliwe.dylib", "kodliwe.dll")
-# Enough for the path of any usual symbol, so that one call prints it. A longer path gets a separate buffer.
-_ROOM = 1 << 16
+# The marker of a path that is cut, and the NUL after a text.
+_AFTER = len("{size limit reached}") + 1
+# A long text is printed in pieces of so many bytes, and the rest of the candidate at their end.
+_PIECE = 1 << 14
+# A byte after which a text is cut. No symbol has it, so what follows it is as at the start of a text.
+_BETWEEN = re.compile(rb"[^0-9A-Za-z_.$]")
+# Enough for what a piece prints if no limit is given, besides the bytes of the candidate at its end, and for any path.
+_ROOM = 1000 * (_PIECE + 1) + MAX_SIZE + _AFTER
+# The size of the buffers that are kept.
+_KEPT = _ROOM + 2 * _PIECE
 
 
 class _Calls(NamedTuple):
@@ -128,28 +140,48 @@ class _Rooms(threading.local):
     call during another."""
 
     def __init__(self) -> None:
-        self.free: List[Tuple[Any, int]] = []
+        self.free: List[Any] = []
 
 
 _rooms = _Rooms()
 
 
+def _buffer(size: int) -> Any:
+    """Returns a new buffer. The system gives it memory where it is written."""
+    return (ctypes.c_char * size).from_buffer(mmap.mmap(-1, size))
+
+
 def _written(call: Callable[..., int], text: bytes, include_hash: bool, limit: int) -> Optional[bytes]:
-    """Returns the bytes that a call writes for a text, without the NUL, or None if the call returns 0."""
-    free = _rooms.free
-    buffer, size = free.pop() if free else (ctypes.create_string_buffer(_ROOM), _ROOM)
-    answer: Optional[bytes]
+    """Returns the bytes that a call writes for a text, without the NUL, or None if the call returns 0.
+
+    It calls once if no limit is given and the text is a piece, or a symbol. Otherwise a second call may need a larger buffer.
+    """
+    free, size = _rooms.free, max(_KEPT, _ROOM + len(text))
+    buffer = free.pop() if free and size == _KEPT else _buffer(size)
     want = call(text, len(text), buffer, size, include_hash, limit)
     if want > size:
         if want > sys.maxsize:
             raise OverflowError("the text would have more than %d bytes" % (sys.maxsize - 1))
-        larger = ctypes.create_string_buffer(want)
+        larger = _buffer(want)
         call(text, len(text), larger, want, include_hash, limit)
-        answer = ctypes.string_at(larger, want - 1)
+        answer: Optional[bytes] = ctypes.string_at(larger, want - 1)
     else:
         answer = ctypes.string_at(buffer, want - 1) if want else None
-    free.append((buffer, size))
+    if size == _KEPT:
+        free.append(buffer)
     return answer
+
+
+def _pieces(text: bytes) -> Iterator[bytes]:
+    """Yields the pieces of a text. Each one but the last ends after the first byte from its `_PIECE`th on that no symbol has."""
+    start = 0
+    while len(text) - start > _PIECE:
+        found = _BETWEEN.search(text, start + _PIECE)
+        if found is None:
+            break
+        yield text[start : found.end()]
+        start = found.end()
+    yield text[start:] if start else text
 
 
 def _encoded(text: AnyStr) -> bytes:
@@ -221,18 +253,22 @@ def demangle(text: AnyStr, hash: bool = False, limit: int = MAX_SIZE, fold: bool
     return text if path is None else path
 
 
-def demangle_text(text: AnyStr, hash: bool = False, limit: int = MAX_SIZE, fold: bool = False) -> AnyStr:
+def demangle_text(text: AnyStr, hash: bool = False, limit: Optional[int] = None, fold: bool = False) -> AnyStr:
     """Returns the text with each Rust symbol in it replaced by its path, and the rest unchanged.
 
     A candidate symbol starts at ``_ZN`` or ``_R``. It ends before the next character that is not an ASCII letter, a digit,
     ``$``, ``.`` or ``_``. After a letter or a digit it stays. A single ``_`` before a symbol, as macOS has it, is replaced with
     it, if the ``_`` is the first character or follows one that no symbol may have. The arguments ``hash``, ``limit`` and
-    ``fold`` are those of ``demangle``, for each symbol.
+    ``fold`` are those of ``demangle``, for each symbol. Without a limit, the path of a symbol of n bytes ends after at most
+    999 n - 20 bytes, and a million, so the text gets at most 1,000 bytes for each of its own. A path also ends where the
+    references of its symbol would have more than 384 n bytes, or more than 384,000,000, read again. So without a limit the time
+    grows with the text alone.
     """
     given, calls = _encoded(text), _calls()
-    filtered = _written(calls.demangle_text_folded if fold else calls.demangle_text, given, hash, _limit(limit))
-    assert filtered is not None  # the call never returns 0
-    return _as_given(text, filtered)
+    most = _NO_LIMIT if limit is None else _limit(limit)
+    call = calls.demangle_text_folded if fold else calls.demangle_text
+    # The call never returns 0, so no piece is None.
+    return _as_given(text, b"".join(_written(call, piece, hash, most) or b"" for piece in _pieces(given)))
 
 
 _HELP = """\
@@ -246,7 +282,7 @@ Options:
   -i, --input FILE    Read FILE; - is standard input. May be given several times
       --hash          Keep the hashes of legacy symbols (foo::h05af221e174051e9)
   -f, --fold          Print generic arguments as _ (Vec<_> for Vec<u8>)
-  -l, --limit BYTES   Cut each path at BYTES (1000000 if not given)
+  -l, --limit BYTES   Cut each path at BYTES (at most 1000000 if not given)
   -h, --help          Print this help
   -V, --version       Print the version and how the library was built
 
@@ -270,7 +306,7 @@ class _Words(NamedTuple):
 
     inputs: List[Tuple[bool, str]]
     hash: bool = False
-    limit: int = MAX_SIZE
+    limit: Optional[int] = None
     fold: bool = False
     text: str = ""
 
@@ -368,7 +404,7 @@ def _print(text: bytes) -> None:
 
 def _argument(given: bytes, words: _Words) -> bytes:
     """Returns what an argument prints: its path if the whole of it is a symbol, or else its text with the symbols replaced."""
-    path = try_demangle(given, words.hash, words.limit, words.fold)
+    path = try_demangle(given, words.hash, MAX_SIZE if words.limit is None else words.limit, words.fold)
     return demangle_text(given, words.hash, words.limit, words.fold) if path is None else path
 
 

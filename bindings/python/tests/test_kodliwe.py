@@ -12,6 +12,7 @@ import sys
 import tempfile
 import threading
 import unittest
+import unittest.mock
 import zipfile
 from unittest import mock
 
@@ -164,9 +165,40 @@ class DemangleText(unittest.TestCase):
     def test_a_limit_is_each_symbols(self):
         self.assertEqual(kodliwe.demangle_text("_ZN3foo3barE _ZN1aE", limit=4), "foo{size limit reached} a")
 
+    def test_a_text_without_a_limit_has_1_000_bytes_for_each(self):
+        symbol = "_RMC0FG15FTGf_Eu"
+        text = (symbol + "\n") * 600
+        for fold in (False, True):
+            self.assertLessEqual(len(kodliwe.demangle_text(text, fold=fold)), 1_000 * len(text))
+        self.assertGreater(len(kodliwe.demangle_text(symbol, limit=kodliwe.MAX_SIZE)), 1_000 * len(symbol))
+
     def test_a_long_text(self):
         count = 50_000
         self.assertEqual(kodliwe.demangle_text("x _RNvC3foo3bar\n" * count), "x foo::bar\n" * count)
+
+    def test_the_end_of_a_piece_changes_nothing(self):
+        pairs = [(" _RNvC3foo3bar", " foo::bar"), ("a_RC1a __RC1a", "a_RC1a a"), ("\xff__ZN3fooE\xfe", "\xfffoo\xfe"), ("._RC1a", ".a")]
+        for symbol, path in pairs:
+            for at in range(kodliwe._PIECE - 20, kodliwe._PIECE + 3):
+                start, end = "-" * at, "-_RC1b" * 10
+                given, wanted = (text.encode("latin-1") for text in (start + symbol + end, start + path + "-b" * 10))
+                self.assertEqual(kodliwe.demangle_text(given), wanted, (symbol, at))
+
+    def test_no_text_is_printed_twice(self):
+        asked, calls = [], kodliwe._calls()
+
+        def call(text, size, *rest):
+            asked.append(size)
+            return calls.demangle_text(text, size, *rest)
+
+        binder = "_RMC0FGZZZZZZZZZZ_Eu"
+        line, long = binder + ".a" * 40 + "\n", binder + ".a" * 200_000
+        short = line * (kodliwe._PIECE // len(line))
+        with unittest.mock.patch.object(kodliwe, "_calls", lambda: calls._replace(demangle_text=call)):
+            for text in (short * 3, long, short + long + short):
+                asked.clear()
+                self.assertGreater(len(kodliwe.demangle_text(text)), 1_000_000)
+                self.assertEqual(sum(asked), len(text))
 
 
 class Version(unittest.TestCase):
