@@ -6,8 +6,10 @@
 function kodliweEngine() {
   const PAGE = 65536;
   const MARKER = 21; // bytes of `{size limit reached}` and the 0 after it
-  const MOST = 1_000_000; // bytes of one path, if no other limit is given
+  const MOST = 1_000_000; // the most bytes of one path
+  const NO_LIMIT = 2n ** 64n - 1n; // of a text: then its length limits what it prints
   const NOT_ASCII = 0x80; // replaces any character that a symbol cannot contain
+  const PIECE = 16_384; // the bytes of a text for one call, without the rest of the candidate at their end
   const encoder = new TextEncoder();
   const decoder = new TextDecoder("utf-8", { ignoreBOM: true });
 
@@ -78,7 +80,9 @@ function kodliweEngine() {
 
     /**
      * Returns the path of a symbol, or null if the text is not a symbol. If `fold` is true, the path
-     * has `_` for each list of generic arguments of a v0 symbol.
+     * has `_` for each list of generic arguments of a v0 symbol. The path is cut at `limit` bytes.
+     * It is also cut where the references of the symbol would make a print read more than 384 bytes
+     * again for each of its own, or more than 384,000,000.
      */
     function demangle(symbol, { hash = false, fold = false, limit = MOST } = {}) {
       putUnits(symbol);
@@ -96,8 +100,8 @@ function kodliweEngine() {
      * count UTF-16 code units. The path is null if a candidate only starts like a symbol, or follows
      * an ASCII letter or digit. A single `_` before a symbol belongs to it, if the `_` is the first
      * character or follows one that no symbol may have. The call limit() returns the most bytes of
-     * each path. Another call of the module overwrites its memory. After one, the later symbols must
-     * not be used.
+     * each path. The references of a symbol also cut its path, as in `demangle`. Another call of
+     * the module overwrites its memory. After one, the later symbols must not be used.
      */
     function* symbols(text, { hash = false, fold = false, limit = () => MOST } = {}) {
       putUnits(text);
@@ -116,29 +120,49 @@ function kodliweEngine() {
       }
     }
 
-    // Demangles a text in parts. It is for texts with lone surrogates, which UTF-8 cannot represent.
-    function joined(text, options) {
-      let kept = 0;
-      let result = "";
-      for (const { start, end, path } of symbols(text, { ...options, limit: () => options.limit })) {
-        if (path === null) continue;
-        result += text.slice(kept, start) + path;
-        kept = end;
-      }
-      return result + text.slice(kept);
+    /**
+     * Returns a text with its symbols demangled. Without a limit, each path ends after at most 999
+     * bytes for each byte of its symbol, so the text gets at most 1,000 bytes for each of its own. The
+     * references of a symbol also cut its path, as in `demangle`.
+     */
+    function demangleText(text, { hash = false, fold = false, limit = NO_LIMIT } = {}) {
+      // UTF-8 cannot represent a lone surrogate. So the texts before and after it get a call each.
+      return text.split(/(\p{Surrogate})/u)
+        .map((part) => (part.isWellFormed() ? demangleUtf8(part, { hash, fold, limit }) : part)).join("");
     }
 
-    /** Returns a text with its symbols demangled, by one call of the module. */
-    function demangleText(text, { hash = false, fold = false, limit = MOST } = {}) {
-      if (!text.isWellFormed()) return joined(text, { hash, fold, limit });
+    // Returns where a piece of a text ends: at its last byte, or after the first character from the
+    // PIECEth byte on that no symbol has. What follows such a character is as at the start of a text.
+    function pieceEnd(start, end) {
+      for (let at = start + PIECE; at < end; at++) {
+        at += Number(wasm.kodliwe_run_len(BigInt(at), BigInt(end - at)));
+        const isContinued = (view[at + 1] & 0xc0) === 0x80;
+        if (at < end && !isContinued) return at + 1;
+      }
+      return end;
+    }
+
+    // Returns a text without lone surrogates, with its symbols demangled by one call for each piece.
+    function demangleUtf8(text, options) {
       reserve(text.length * 3);
-      const size = encoder.encodeInto(text, view.subarray(base)).written;
-      const next = base + size;
+      const next = base + encoder.encodeInto(text, view.subarray(base)).written;
+      const printed = [];
+      for (let start = base; start < next;) {
+        const end = pieceEnd(start, next);
+        printed.push(demanglePiece(start, end - start, next, options));
+        start = end;
+      }
+      return printed.join("");
+    }
+
+    // Returns a piece of a text with its symbols demangled. Memory from `next` is free. The first room
+    // is enough if there is no limit: the piece has at most PIECE + 1 bytes and one long candidate.
+    function demanglePiece(at, size, next, { hash, fold, limit }) {
       const print = fold ? wasm.kodliwe_demangle_text_folded : wasm.kodliwe_demangle_text;
-      for (let room = size * 2 + 1; ;) {
-        reserve(size + room);
+      for (let room = 1000 * Math.min(size, PIECE + 1) + MOST + MARKER + size; ;) {
+        reserve(next - base + room);
         const needed = Number(print(
-          BigInt(base), BigInt(size), BigInt(next), BigInt(room), hash ? 1 : 0, BigInt(limit)));
+          BigInt(at), BigInt(size), BigInt(next), BigInt(room), hash ? 1 : 0, BigInt(limit)));
         if (needed <= room) return read(next, needed - 1);
         room = needed;
       }

@@ -484,9 +484,9 @@ stack backtrace:
     const found = `${commas(symbols)} ${symbols === 1 ? "symbol" : "symbols"}`;
     const none = "No symbols found. Rust symbols begin with _R or _ZN.";
     const text = asked.text === "" ? "" : !isDone ? `${found} so far …` : symbols === 0 ? none : `${found} demangled.`;
-    const few = isFew ? ", and past 256 once all were very long" : "";
+    const few = isFew ? " (256 once all were very long)" : "";
     const paths = cut.size === 1 ? "path ends" : "paths end";
-    const more = cut.size ? `${commas(cut.size)} ${paths} in {size limit reached}, past 16,384 bytes${few}.` : "";
+    const more = cut.size ? `${commas(cut.size)} ${paths} in {size limit reached}, after 16,384 bytes${few} or too many references.` : "";
     $("count").textContent = text;
     $("cut").textContent = more;
     if (isDone) say(`${text} ${more}`);

@@ -3,7 +3,7 @@ import { spawnSync } from "node:child_process";
 import { createHash } from "node:crypto";
 import fs from "node:fs";
 import { createRequire } from "node:module";
-import { BEFORE, FOLDED, HOSTILE, HOSTILE_LINES, LOG, LOG_LINE, ODD, ODD_RESULT } from "./texts.mjs";
+import { BEFORE, FOLDED, HOSTILE, HOSTILE_LINES, LOG, LOG_LINE, MARKER, ODD, ODD_RESULT, REREAD } from "./texts.mjs";
 
 const require = createRequire(import.meta.url);
 const root = new URL("../../", import.meta.url).pathname;
@@ -11,6 +11,7 @@ const PROGRAMS = `${root}out/build/`;
 const CORPUS = `${root}crates/demangle_corpus/stdin`;
 const BUILT = `${root}crates/demangle_web/out/kodliwe.wasm`;
 
+const MOST = 1_000_000; // bytes of a path without its marker
 const LETTERS = { n: "\n", r: "\r", t: "\t", "\\": "\\", "|": "|" };
 
 // Returns a field of the corpus without its escapes (tests/README.md).
@@ -27,8 +28,40 @@ function isField(text, field) {
   return bytes.length === Number(sum[1]) && createHash("sha256").update(bytes).digest("hex") === sum[2];
 }
 
+// Returns the output of a program for a text, or null if its status is not 0.
+function outputOf(program, flags, text) {
+  if (!fs.existsSync(PROGRAMS + program)) throw new Error(`${program} is not in ${PROGRAMS}: \`make\` builds it`);
+  const run = spawnSync(PROGRAMS + program, flags, { input: text, maxBuffer: 1 << 30 });
+  return run.status === 0 ? run.stdout.toString() : null;
+}
+
+// Returns the path of a symbol with its hash and the path without it. demangle_filter follows each reference.
+const wholePaths = (symbol) => [[], ["--no-hash"]].map((flags) => outputOf("demangle_filter", flags, symbol));
+
+const unmarked = (path) => (path.endsWith(MARKER) ? path.slice(0, -MARKER.length) : path);
+
+// Returns the folded paths of a symbol, from the second symbol that REREAD has for it. They have over 1,000,000 bytes.
+const foldedPaths = (like) => wholePaths(like).map((path) => unmarked(path).replaceAll("}<>", "}<_>").slice(0, MOST) + MARKER);
+
+// Returns true if a path is the start of the whole path, the marker and the suffix. The start ends before a reference, which
+// never follows a letter or a digit.
+function isCut(path, whole, suffix) {
+  const end = MARKER + suffix;
+  const start = path.slice(0, -end.length);
+  const all = unmarked(whole);
+  return path.endsWith(end) && /\W$/.test(start) && start.length < all.length && all.startsWith(start);
+}
+
+// Returns true if the paths of a symbol are cut, without a suffix and with one.
+function areCut(it, symbol, wholes, fold) {
+  return ["", ".cold.7"].every((suffix) => [true, false].every((hash, at) =>
+    isCut(it.demangle(symbol + suffix, { hash, fold }), wholes[at], suffix)));
+}
+
+// Compares each symbol with its stored paths. For a symbol of REREAD, demangle_filter has to return the stored paths, since
+// the corpus has only their digests. The module has to cut them, and no others.
 function testCorpus(it, check) {
-  const count = { symbols: 0, others: 0, limits: 0 };
+  const count = { symbols: 0, others: 0, limits: 0, cut: 0 };
   const wrong = [];
   for (const line of fs.readFileSync(CORPUS, "utf8").split("\n")) {
     const fields = line.split("\t");
@@ -37,22 +70,26 @@ function testCorpus(it, check) {
     let isRight = true;
     if (fields[0] === "\\limit") {
       count.limits++;
-      const [full, short] = both(Math.min(Number(fields[2]), 1_000_000));
+      const [full, short] = both(Math.min(Number(fields[2]), MOST));
       isRight = full === null || (isField(full, fields[3]) && isField(short, fields[4]));
     } else if (fields[0] !== "\\pieces" && fields.length === 5) {
-      const [full, short] = both();
       if (fields[1] === "OK") {
         count.symbols++;
-        isRight = full !== null && isField(full, fields[3]) && isField(short, fields[4]) && it.isSymbol(text);
+        const wholes = REREAD.has(text) ? wholePaths(text) : both();
+        isRight = wholes.every((path, at) => path !== null && isField(path, fields[3 + at])) && it.isSymbol(text);
+        if (REREAD.has(text)) {
+          count.cut++;
+          isRight &&= areCut(it, text, wholes, false);
+        }
       } else {
         count.others++;
-        isRight = full === null && !it.isSymbol(text);
+        isRight = both()[0] === null && !it.isSymbol(text);
       }
     }
     if (!isRight) wrong.push(line.slice(0, 100));
   }
-  check("the stored corpus", wrong.length === 0 && count.symbols > 2000 && count.others > 500,
-    `${count.symbols} symbols, ${count.others} others, ${count.limits} limits; wrong: ${wrong.length} ${wrong.slice(0, 3).join(" | ")}`);
+  check("the stored corpus", wrong.length === 0 && count.symbols > 2000 && count.others > 500 && count.cut === REREAD.size,
+    `${count.symbols} symbols, ${count.others} others, ${count.limits} limits, ${count.cut} cut; wrong: ${wrong.length} ${wrong.slice(0, 3).join(" | ")}`);
 }
 
 function testFolding(it, check) {
@@ -76,20 +113,25 @@ function testFolding(it, check) {
 // come from the crate with the change that tests/README.md describes.
 const FOLDED_CORPUS = "1115a1606b838030f4d3de7343fa19ce82e129044f750537a7c938998f47f82c";
 
-// Folds each symbol of the corpus. The paths of 1,252 symbols then differ from those that are not folded.
+// Folds each symbol of the corpus. The paths of 1,252 symbols then differ from those that are not folded. Where the module has
+// to cut a path, the digest has the whole path.
 function testFoldedCorpus(it, check) {
   const sum = createHash("sha256");
+  const wrong = [];
   let count = 0, changed = 0;
   for (const line of fs.readFileSync(CORPUS, "utf8").split("\n")) {
     const fields = line.split("\t");
     if (fields[0] === "\\limit" || fields[0] === "\\pieces" || fields[1] !== "OK") continue;
     const text = plain(fields[0]);
-    const [full, short] = [true, false].map((hash) => it.demangle(text, { hash, fold: true }));
+    const like = REREAD.get(text);
+    const [full, short] = like ? foldedPaths(like) : [true, false].map((hash) => it.demangle(text, { hash, fold: true }));
+    if (like && !areCut(it, text, [full, short], true)) wrong.push(text);
     sum.update(`${full}\n${short}\n`);
     count++;
     if (!isField(full, fields[3])) changed++;
   }
-  check("the stored corpus, folded", sum.digest("hex") === FOLDED_CORPUS && changed === 1252, `${count} symbols, ${changed} other paths`);
+  check("the stored corpus, folded", sum.digest("hex") === FOLDED_CORPUS && changed === 1252 && wrong.length === 0,
+    `${count} symbols, ${changed} other paths; wrong: ${wrong.length} ${wrong.join(" | ")}`);
 }
 
 function joined(it, text, options) {
@@ -100,6 +142,27 @@ function joined(it, text, options) {
     kept = end;
   }
   return result + text.slice(kept);
+}
+
+// A text of 10 KB whose paths are over 60,000 times as long as their symbols, if only a limit of bytes cuts them.
+function testNoLimit(it, check) {
+  const text = "_RMC0FG15FTGf_Eu\n".repeat(600);
+  const most = 1_000 * text.length;
+  check("a text without a limit", it.demangleText(text).length <= most && it.demangleText(`\ud800${text}`).length <= most);
+  check("a text with a limit", it.demangleText(text.slice(0, 17), { limit: 1_000_000 }).length > 1_000 * 17);
+}
+
+// Texts with a candidate near the 16,384th byte, where a piece of a text ends.
+function testPieces(it, check) {
+  const pairs = [[" _RNvC3foo3bar", " foo::bar"], ["a_RC1a __RC1a", "a_RC1a a"], ["é__ZN3fooEß", "éfooß"], ["€._RC1a", "€.a"], ["𝕂_RC1a", "𝕂a"]];
+  const wrong = [];
+  for (const [symbol, path] of pairs) {
+    for (let at = 16_384 - 20; at < 16_384 + 3; at++) {
+      const [start, end] = ["-".repeat(at), "é".repeat(9)];
+      if (it.demangleText(start + symbol + end) !== start + path + end) wrong.push(`${symbol} at ${at}`);
+    }
+  }
+  check("the end of a piece changes nothing", wrong.length === 0, wrong.slice(0, 3).join(" | "));
 }
 
 // The programs that the module is compared with, each with its options and those of the module.
@@ -119,10 +182,10 @@ function testBesideProgram(it, check) {
       continue;
     }
     for (const [name, text] of texts) {
-      const run = spawnSync(PROGRAMS + program, flags, { input: text, maxBuffer: 1 << 30 });
-      const expected = run.stdout.toString();
-      const isRight = run.status === 0 && expected !== text && it.demangleText(text, options) === expected && joined(it, text, options) === expected;
-      check(`${name}, ${how}, is the output of ${program}`, isRight, `${expected.length} characters`);
+      const expected = outputOf(program, flags, text);
+      check(`${name}, ${how}, is the output of ${program}`, expected !== text && it.demangleText(text, options) === expected, `${expected?.length} characters`);
+      const cut = outputOf(program, [...flags, "--limit", "1000000"], text);
+      check(`${name}, ${how}, each path on its own`, cut !== text && joined(it, text, options) === cut && it.demangleText(text, { ...options, limit: 1_000_000 }) === cut, `${cut?.length} characters`);
     }
   }
 }
@@ -153,7 +216,7 @@ export async function testModule(check) {
   }
   check("a text without symbols", () => it.demangleText("_R _ZN\r\n") === "_R _ZN\r\n" && it.demangleText("") === "");
   check("a text's limit", () => it.demangleText("a _ZN3foo3barE b", { limit: 4 }) === "a foo{size limit reached} b");
-  for (const test of [testFolding, testCorpus, testFoldedCorpus, testBesideProgram]) {
+  for (const test of [testFolding, testCorpus, testFoldedCorpus, testNoLimit, testPieces, testBesideProgram]) {
     try {
       test(it, check);
     } catch (error) {

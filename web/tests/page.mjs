@@ -7,7 +7,7 @@ import os from "node:os";
 import path from "node:path";
 import { fileURLToPath } from "node:url";
 import { sleep, start } from "./driver.mjs";
-import { FOLDED, HOSTILE, HOSTILE_LINE, HOSTILE_LINES, LOG, LOG_LINE, ODD, ODD_RESULT } from "./texts.mjs";
+import { FOLDED, HOSTILE, HOSTILE_LINE, HOSTILE_LINES, LOG, LOG_LINE, MARKER, ODD, ODD_RESULT, REREAD } from "./texts.mjs";
 
 const require = createRequire(import.meta.url);
 const WEB = fileURLToPath(new URL("../", import.meta.url));
@@ -504,7 +504,11 @@ export async function testPage(kind, check, shots) {
     say("and the text before it is still there", (await output()) === "foo");
     await open("cut.txt", HOSTILE);
     await done();
-    say("a path past 16,384 bytes says so", (await output()).endsWith("{size limit reached}") && (await value("cut")) === "1 path ends in {size limit reached}, past 16,384 bytes.", await value("cut"));
+    const cut = "1 path ends in {size limit reached}, after 16,384 bytes or too many references.";
+    say("a path past 16,384 bytes says so", (await output()).length === 16_384 + MARKER.length && (await output()).endsWith(MARKER) && (await value("cut")) === cut, await value("cut"));
+    await open("references.txt", [...REREAD.keys()][0]);
+    await done();
+    say("a path with too many references says so", (await output()).length < 16_384 && (await output()).endsWith(MARKER) && (await value("cut")) === cut, await value("cut"));
   }
 
   // Presses some keys over a text, and returns the milliseconds of the one that waits longest.

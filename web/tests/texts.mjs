@@ -1,4 +1,5 @@
 // Texts for the tests.
+export const MARKER = "{size limit reached}";
 const DIGITS = "0123456789abcdefghijklmnopqrstuvwxyzABCDEFGHIJKLMNOPQRSTUVWXYZ";
 
 // A symbol whose path doubles with each of 58 tuples, and so exceeds every limit.
@@ -20,6 +21,22 @@ export const FOLDED = [
     "alloc[f15a878b47eb696b]::alloc::box_free::<_>", "alloc::alloc::box_free::<_>"],
   ["_ZN11_$LT$u8$GT$3bar17h05af221e174051e9E", "<u8>::bar::h05af221e174051e9", "<u8>::bar"],
 ];
+
+// The symbols of the corpus that the module cuts at a reference: to follow it, a print would read more than 384 bytes
+// again for each byte of the symbol. If a second symbol is given, the folded path is cut too. The second symbol has the type
+// `_` in place of generic arguments. So its path is the folded path of the first, with `<>` for `<_>` after an error.
+export const REREAD = new Map([
+  ["_RINgXC3VecDB_EL_Cs_1as0_3cYcTSB2_B8_Cs2_7closureElE", null],
+  ["_RIC12_NzMs2_C7_cloKj0_DB4_B4_EL_Kj0_E", null],
+  ["_RIC80_NCYeXs0_B4_IC3stdRL_B5_FG_K14rust_intrinsicDG1_ICu3___gEp2r0yp4__Ya9B7_EL0_B15_EDB4_B4_EL_RL0_hEC1z", null],
+  ["_RMC0TTTTTTTTTTTTTTINvC1a1bKj1_Kca_EBf_EBe_EBd_EBc_EBb_EBa_EB9_EB8_EB7_EB6_EB5_EB4_EB3_EB2_E",
+    "_RMC0TTTTTTTTTTTTTTINvC1a1bpEBf_EBe_EBd_EBc_EBb_EBa_EB9_EB8_EB7_EB6_EB5_EB4_EB3_EB2_E"],
+  ["_RIC0KTTTTTTTTTh1_Bb_EBa_EB9_EB8_EB7_EB6_EB5_EB4_EB3_EE", null],
+  ["_RIC0KTTTTTTTTTVC1aUBb_EBa_EB9_EB8_EB7_EB6_EB5_EB4_EB3_EE", null],
+  ["_RMC0TTTTTTTTTTTTTTTFG_RL0_hEuBg_EBf_EBe_EBd_EBc_EBb_EBa_EB9_EB8_EB7_EB6_EB5_EB4_EB3_EB2_E",
+    "_RMC0TTTTTTTTTTTTTTTFG_RL0_hEuBg_EBf_EBe_EBd_EBc_EBb_EBa_EB9_EB8_EB7_EB6_EB5_EB4_EB3_EB2_E"],
+  ["_RIC0KTTTTTTTTTTTTTTTVC1aUBh_EBg_EBf_EBe_EBd_EBc_EBb_EBa_EB9_EB8_EB7_EB6_EB5_EB4_EB3_EE", null],
+]);
 
 export const LOG_LINE = LOG.replaceAll("\n", " ");
 export const HOSTILE_LINES = `${HOSTILE}\n`.repeat(5000);
