@@ -10,6 +10,9 @@ with a number, symbols whose cost only a limit of work could bound, and symbols 
   c        the calls of the archive that read a symbol or a text, as `make` builds it (proved) and as `make KIT=none` does (tested)
   program  kodliwe, plain and with --fold, over its standard input, as `make` builds it (proved) and as cargo does; and with --limit 0
            an argument whose path has 2^18 parts
+  linear   kodliwe and the archive's calls of texts, plain and folded, with no limit, over texts whose time and output are linear only by
+           the limits that hold then: for each byte at most LINEAR_RATE instructions and OUTPUT bytes, for a double LINEAR_GROWTH times
+           the instructions
   page     the module of the page, in node. There is no count of its instructions, so this is processor time, of a text and its double
   memory   VmHWM of each kodliwe over all of the texts: at most 8 MB, and twice the longest candidate of a symbol
   printed in vain
@@ -31,8 +34,10 @@ if enough symbols came between, so it also reads texts with as many cheap symbol
 
 These runs are those of hostile_texts.VAIN, real symbols that are cut off, and what a search finds (tests/hostile_search.py). A run that
 is a symbol for the published crate is left out, such as a real symbol that is cut off within its suffix. But the calls of BytesFilter
-also read a symbol whose print gives up. The seed of the search and the number of its generations are fixed, so it finds the same each
-time. --seed and --minutes make another one, of 5 minutes by default.
+also read a symbol whose print gives up, and the searches over them judge symbols too. The seed of the search and the number of its
+generations are fixed, so it finds the same each time. --seed and --minutes make another one, of 5 minutes by default.
+
+A search of the same kind looks for the symbol that costs most for each byte if no limit is given: at most DEAREST_RATE instructions.
 
 --rust names another crate than that of this checkout. --programs, or PROGRAMS in the environment, names some builds of the program,
 or other files: --programs proved,cargo=PATH. --archives names those of the archive in the same way. `make` builds the proved ones.
@@ -62,6 +67,8 @@ DEBIAN = "/usr/share/cargo/registry"
 TIMES, RATE = 3, 400
 # The most that a byte of a double costs, in that of a byte of its half.
 GROWTH = 1.3
+# The most instructions and bytes of output for each byte of a text of LINEAR, if no limit is given, and the most that its double costs.
+LINEAR_RATE, OUTPUT, LINEAR_GROWTH = 60_000, 1_000, 2.2
 # The bytes of a text of a family. Its double is the second one.
 SIZE = 16_384
 # The symbols by the grammar, and how many of them are one text.
@@ -81,6 +88,8 @@ C_CALLS = [
     "kodliwe_demangle_text",
     "kodliwe_demangle_text_folded",
 ]
+# The calls of texts, with the limit that says that none is given.
+LINEAR_C_CALLS = ["kodliwe_demangle_text, no limit", "kodliwe_demangle_text_folded, no limit"]
 # The calls that read runs which are no symbols, by the Rust crate and by the archive. BytesFilter prints these first.
 VAIN_CALLS, VAIN_C_CALL = ["demangle_slice", "BytesFilter", "BytesFilter folded"], "kodliwe_demangle_text"
 # The most that a byte of a text of four times the size costs the page, in processor time.
@@ -100,6 +109,10 @@ CHEAP, BYTES_PER_SYMBOL = 8, 4
 # them shows if one does not.
 SEARCHES = {"demangle_slice": (384, 20, True), "BytesFilter": (400, 60, False), "BytesFilter folded": (800, 30, False)}
 SEED = 1
+# The searches for runs that are dear to calls without a limit: the most bytes of a run, and the generations. And the most instructions
+# that a byte of such a run may take.
+LINEAR_SEARCHES = {call: (200, 10) for call in LINEAR_C_CALLS}
+DEAREST_RATE = 90_000
 # A v0 run, and the number at the end of a run.
 RUN, NUMBER = re.compile(rb"_R[0-9A-Za-z_.$]*"), re.compile(rb"[0-9]{0,6}$")
 # How many climbs of a search have their dearest run measured MANY times.
@@ -158,6 +171,7 @@ def total_of(path):
 def judged(call, ours, crates):
     """Fails with each text that costs too much. Returns the greatest figures, which may be those of different texts."""
     wrong, most_rate, most_times, most_growth = [], 0, 0, 0
+    most_output = max(size / len(text.bytes) for text, (_, size) in zip(TEXTS, ours))
     rates = [count / (len(text.bytes) + size) for text, (count, size) in zip(TEXTS, ours)]
     for at, (text, (count, _), (crate, _)) in enumerate(zip(TEXTS, ours, crates)):
         times = count / crate
@@ -172,7 +186,8 @@ def judged(call, ours, crates):
             most_growth = max(most_growth, growth)
             wrong += ["%s: a byte of it costs %.2f times one of its half" % (text.name, growth)] * (growth > GROWTH)
     assert not wrong, "%s, %d texts:\n  %s" % (call, len(wrong), "\n  ".join(wrong))
-    return "at most %.0f a byte, %.1f times the crate, and %.2f times the half" % (most_rate, most_times, most_growth)
+    told = "at most %.0f a byte, %.1f times the crate, %.2f times the half, and %.0f bytes of output a byte"
+    return told % (most_rate, most_times, most_growth, most_output)
 
 
 @functools.lru_cache(maxsize=None)
@@ -241,6 +256,35 @@ def program_call(program, *words):
     return judged(" ".join(["kodliwe", *words]), ours, theirs("kodliwe"))
 
 
+def linear(measure):
+    """Judges a call to which no limit is given by its instructions and output for the texts of LINEAR, each with its double."""
+    texts = [family(size).encode("ascii") for family in hostile_texts.LINEAR.values() for size in (SIZE // 2, SIZE)]
+    found, wrong, most = list(measure(texts)), [], [0, 0, 0]
+    for at, name in enumerate(hostile_texts.LINEAR):
+        size, (half, _), (count, output) = len(texts[2 * at + 1]), *found[2 * at : 2 * at + 2]
+        row = count / size, output / size, count / half
+        most = [max(pair) for pair in zip(most, row)]
+        if any(value > bound for value, bound in zip(row, (LINEAR_RATE, OUTPUT, LINEAR_GROWTH))):
+            wrong.append("%s: %.0f instructions a byte, %.0f bytes of output, %.2f times the half" % (name, *row))
+    assert not wrong, "\n  ".join(["%d texts:" % len(wrong), *wrong])
+    return "at most %.0f instructions a byte, %.0f bytes of output, %.2f times the half" % tuple(most)
+
+
+def linear_program(program, *words):
+    command = [built(program), *words]
+    start = instructions(command, b"")
+
+    def figures(text):
+        return instructions(command, text) - start, len(run(command, input=text))
+
+    with futures.ThreadPoolExecutor(AT_ONCE) as pool:
+        return linear(lambda texts: list(pool.map(figures, texts)))
+
+
+def linear_c(call, *archive):
+    return linear(functools.partial(measured, c_driver(*archive), call))
+
+
 def argument(program):
     """Measures the program for an argument whose path has 2^18 parts, under a limit of 0. It reads the argument, and prints nothing."""
     symbol, command = hostile_texts.nested("MIC0" + "h" * 1000 + "EC0", 18), [built(program), "--limit", "0"]
@@ -262,9 +306,10 @@ def page_times(texts):
 
 def page():
     """Compares each family with a text of four times its size. A text that seems too slow is tried again, since time varies."""
-    left, most = list(hostile_texts.FAMILIES), 0
+    families, most = {**hostile_texts.FAMILIES, **hostile_texts.LINEAR}, 0
+    left = list(families)
     for _ in range(3):
-        texts = [family(size) for name, family in hostile_texts.FAMILIES.items() if name in left for size in (SIZE, 4 * SIZE)]
+        texts = [families[name](size) for name in left for size in (SIZE, 4 * SIZE)]
         times = page_times(texts)
         growths = [max(b / a for a, b in zip(*times[at : at + 2])) for at in range(0, len(times), 2)]
         most = max([most, *(growth for growth in growths if growth <= PAGE_GROWTH)])
@@ -433,6 +478,38 @@ def also_read(call, with_archives):
     return calls + [("%s, %s" % (VAIN_C_CALL, archive[0]), Vain(VAIN_C_CALL, *archive)) for archive in archives() if with_archives]
 
 
+def searched(most, generations, scores, known):
+    """Returns a search after so many generations, or after the time that is given."""
+    search = hostile_search.Search(SEED if GIVEN.seed is None else GIVEN.seed, most, scores, known)
+    if GIVEN.seed is None and GIVEN.minutes is None:
+        for _ in range(generations):
+            search.generation()
+    else:
+        end = time.monotonic() + 60 * (5 if GIVEN.minutes is None else GIVEN.minutes)
+        while time.monotonic() < end:
+            search.generation()
+    return search
+
+
+def linear_search(call):
+    """Searches for runs that cost much for each byte, if no limit is given. Fails if one costs over DEAREST_RATE, in any archive."""
+    most, generations = LINEAR_SEARCHES[call]
+    chosen = list(archives())
+
+    def rates(archive, runs):
+        texts = [run.encode("ascii") for run in runs]
+        counts = measured(c_driver(*archive), call, texts) if texts else []
+        return [count / len(text) for (count, _), text in zip(counts, texts)]
+
+    search = searched(most, generations, functools.partial(rates, chosen[0]), hostile_texts.linear_runs(most))
+    found = search.dearest()[:DEAREST]
+    most_of = {archive[0]: max(rates(archive, found)) for archive in chosen}
+    told = "%d runs in %d climbs, the dearest is %s; instructions a byte: " % (len(search.tried), search.climbs, found[0])
+    told += ", ".join("%.0f %s" % (rate, name) for name, rate in most_of.items())
+    assert max(most_of.values()) <= DEAREST_RATE, told
+    return told
+
+
 def vain_search(call, most, generations, with_archives):
     """Searches for runs that cost much alone. Fails if the dearest ones of some climbs cost too much, or do so by other calls."""
     known, vain = [symbol for symbols in vain_runs().values() for symbol in symbols[:3]], Vain(call)
@@ -444,14 +521,7 @@ def vain_search(call, most, generations, with_archives):
         in_vain = set(no_symbols(runs))
         return [cost if symbol in in_vain else 0 for symbol, cost in zip(runs, costs)]
 
-    search = hostile_search.Search(SEED if GIVEN.seed is None else GIVEN.seed, most, scores, known)
-    if GIVEN.seed is None and GIVEN.minutes is None:
-        for _ in range(generations):
-            search.generation()
-    else:
-        end = time.monotonic() + 60 * (5 if GIVEN.minutes is None else GIVEN.minutes)
-        while time.monotonic() < end:
-            search.generation()
+    search = searched(most, generations, scores, known)
     found = search.dearest()[:DEAREST]
     told, wrong = "%d runs in %d climbs, the dearest is %s" % (len(search.tried), search.climbs, found[0]), False
     for name, other in also_read(call, with_archives):
@@ -480,9 +550,13 @@ def main():
     for archive in archives():
         for call in C_CALLS:
             tally.step("c %s, %s" % (call, archive[0]), c_call, call, *archive)
+        for call in LINEAR_C_CALLS:
+            tally.step("c %s, %s" % (call, archive[0]), linear_c, call, *archive)
     for name, program in rust_common.chosen(GIVEN.programs):
         tally.step("program %s" % name, program_call, program)
         tally.step("program %s, folded" % name, program_call, program, "--fold")
+        tally.step("program %s, linear" % name, linear_program, program)
+        tally.step("program %s, linear, folded" % name, linear_program, program, "--fold")
         tally.step("program %s, an argument" % name, argument, program)
         tally.step("memory %s" % name, memory, program)
     for call in VAIN_CALLS:
@@ -491,6 +565,8 @@ def main():
         tally.step("printed in vain, %s, %s" % (VAIN_C_CALL, archive[0]), vain_families, VAIN_C_CALL, *archive)
     for call, setting in SEARCHES.items():
         tally.step("printed in vain, search for %s" % call, vain_search, call, *setting)
+    for call in LINEAR_SEARCHES:
+        tally.step("linear, search for %s" % call, linear_search, call)
     tally.step("page", page)
     return tally.end()
 

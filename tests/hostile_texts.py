@@ -128,6 +128,16 @@ UNBOUNDED = {
     "a binder": (2, lambda: "_RMC0FG" + base62(50_000) + "Eu"),
 }
 
+# Without a limit of the caller, their time and output are linear all the same. Each family returns a text of about that many bytes.
+LINEAR = {
+    "one B": lambda n: nested("MIC0" + "h" * n + "EC0", 18) + "\n",
+    "B in lines": lambda n: lines(nested("MIC0" + "h" * 1000 + "EC0", 18, ".%06d"), n // 1103),
+    "short B in lines": lambda n: lines(nested("MIC0" + "h" * 100 + "EC0", 18, ".%06d"), n // 203),
+    "doubled in lines": lambda n: lines(doubled("u", 11, ".%06d"), n // 127),
+    "binders in lines": lambda n: "_RMC0FG15FTGf_Eu\n" * (n // 17),
+    "binders in one line": lambda n: "_RMC0FG15FTGf_Eu " * (n // 17),
+}
+
 
 def referred(part, many, before="IC0"):
     """Returns a run that has a part, references to it, and then an error."""
@@ -195,6 +205,13 @@ def vain_families():
     for size in (64, 128, 256):
         families["real symbols cut off after %d bytes" % size] = [symbol[:size] for symbol in symbols if len(symbol) > size]
     return families
+
+
+def linear_runs(most):
+    """Returns runs of about `most` bytes that cost much for each byte if no limit is given, for a search to begin with."""
+    parts = ["h", "C0", "Rh", "Kp", "IC0E"]
+    runs = [nested(start + part * (most // 3 // len(part)) + end, 12) for part in parts for start, end in (("T", "E"), ("MIC0", "EC0"))]
+    return [run for run in [*runs, doubled("u", 8), overlapping(2, 20, ""), "_RMC0FG15FTGf_Eu"] if len(run) <= most]
 
 
 class Grammar:

@@ -35,6 +35,14 @@ static size_t whole(const char *all, size_t len) { return kodliwe_demangle_text(
 
 static size_t whole_folded(const char *all, size_t len) { return kodliwe_demangle_text_folded(all, len, out, sizeof out, true, LIMIT); }
 
+static size_t linear(const char *all, size_t len) {
+    return kodliwe_demangle_text(all, len, out, sizeof out, true, KODLIWE_NO_LIMIT);
+}
+
+static size_t linear_folded(const char *all, size_t len) {
+    return kodliwe_demangle_text_folded(all, len, out, sizeof out, true, KODLIWE_NO_LIMIT);
+}
+
 static const struct {
     const char *name;
     size_t (*of)(const char *, size_t);
@@ -50,6 +58,8 @@ static const struct {
     {"kodliwe_demangle_folded", folded, false},
     {"kodliwe_demangle_text", whole, true},
     {"kodliwe_demangle_text_folded", whole_folded, true},
+    {"kodliwe_demangle_text, no limit", linear, true},
+    {"kodliwe_demangle_text_folded, no limit", linear_folded, true},
 };
 
 __attribute__((noinline)) size_t measured(size_t call, size_t len) {
