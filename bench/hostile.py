@@ -1,19 +1,20 @@
 #!/usr/bin/env python3
 """Runs demangle_filter and the other demanglers of this machine over symbols that are made to be costly.
 
-Each symbol is one line of standard input. It prints a Markdown table with a row for each symbol; for each program it has
-the seconds from start to end, the peak memory of the process in megabytes (its greatest resident set) and the bytes that
-it wrote, or how it failed. A program is killed after the timeout. The table has one symbol of each kind, and all of them
-with --all. With --stack, demangle_filter runs again with its stack limited. `make` builds it.
+Each symbol is one line of standard input, but for the last row of the first table, which is a text of equal lines. It prints
+a Markdown table with a row for each symbol; for each program it has the seconds of processor time, the peak memory of the
+process in megabytes (its greatest resident set) and the bytes that it wrote, or how it failed. A program is killed when it
+has taken the timeout. The table has one symbol of each kind, and all of them with --all. With --stack, demangle_filter runs
+again with its stack limited. `make` builds it.
 
 A second table has the processor time of kodliwe, as it is and with --limit 10000, for texts whose references make a printer
-read a part that is not printed again and again: lines that are no symbols, and one symbol in three lengths. The longest
-run takes over a minute.
+read a part that is not printed again and again: lines that are no symbols (A), and one symbol in four lengths (B), which is
+18 tuples in each other around an impl path.
 """
-import argparse, ctypes, os, signal, subprocess, tempfile, threading, time
+import argparse, ctypes, os, signal, subprocess, tempfile, time
 
-from hostile_texts import FAMILIES, nested
 from measuring import FILTER, KODLIWE, further, need_programs, others
+from hostile_texts import FAMILIES, LINEAR, nested
 from texts import hostile
 
 # The shell ends, and leaves the program to this process as a child, which starts when the gate opens. A child that this
@@ -33,8 +34,26 @@ SHOWN = (
     "`_RMC0FG`, 10 `Z`, `_Eu`",
     "10^6 times `_ZN1aE `",
 )
-# The texts of the second table, and the seconds after which such a run is killed.
-LINES, LENGTHS, LONG = 500, (1_000, 10_000, 30_000), 600
+# The last rows, with the family of each text and a number that sets its length. Only limits of kodliwe make their cost linear.
+LIMITED = (
+    ("B, 30,102 bytes", "one B", 30_000),
+    ("588 lines `_RMC0FG15FTGf_Eu`", "binders in lines", 10_000),
+)
+# The texts of the second table, and the seconds of processor time after which such a run is killed.
+LINES, LENGTHS, LONG = 500, (1_000, 10_000, 30_000, 1_000_000), 60
+
+
+def waited(pid, timeout):
+    """Waits for a child, which is killed when it has taken so many seconds of processor time. Returns its status and what it used."""
+    # This is what clock_getcpuclockid(3) makes of the number of a process.
+    clock = ~pid << 3 | 2
+    while True:
+        ended, status, usage = os.wait4(pid, os.WNOHANG)
+        if ended:
+            return status, usage
+        if time.clock_gettime(clock) > timeout:
+            os.kill(pid, signal.SIGKILL)
+        time.sleep(0.01)
 
 
 class Run:
@@ -49,12 +68,7 @@ class Run:
             words = ["sh", "-c", START, "sh", str(stack)] + program
             pid = int(subprocess.run(words, cwd=folder, stdout=subprocess.PIPE, check=True).stdout)
             open(gate, "w").close()
-            began = time.perf_counter()
-            watch = threading.Timer(timeout, os.kill, (pid, signal.SIGKILL))
-            watch.start()
-            _, status, usage = os.wait4(pid, 0)
-            self.seconds = time.perf_counter() - began
-            watch.cancel()
+            status, usage = waited(pid, timeout)
             self.processor = usage.ru_utime + usage.ru_stime
             self.kilobytes = usage.ru_maxrss
             self.written = os.path.getsize(out)
@@ -65,22 +79,31 @@ class Run:
             return ""
         if code > 0:
             return "status %d" % code
-        if -code == signal.SIGKILL and self.seconds >= timeout:
+        if -code == signal.SIGKILL and self.processor >= timeout:
             return "over %g s" % timeout
         return signal.Signals(-code).name
 
     def cell(self):
         wrote = self.end or "{:,}".format(self.written)
-        return "{:.2f}, {:.1f}, {}".format(self.seconds, self.kilobytes / 1024, wrote)
+        return "{:.2f}, {:.1f}, {}".format(self.processor, self.kilobytes / 1024, wrote)
+
+
+def rows(is_all):
+    """Yields the texts of the first table, with their names."""
+    for case, symbol in hostile():
+        if is_all or case in SHOWN:
+            yield case, symbol + "\n"
+    for case, family, size in LIMITED:
+        yield case, LINEAR[family](size)
 
 
 def unprinted():
     """Yields the texts of the second table, with their names."""
     text = FAMILIES["A"](LINES * 2029)
-    yield "%d lines of %s bytes that are no symbols" % (LINES, "{:,}".format(text.index("\n"))), text
+    yield "A, %d lines of %s bytes" % (LINES, "{:,}".format(text.index("\n"))), text
     for count in LENGTHS:
         symbol = nested("MIC0%sEC0" % ("h" * count), 18)
-        yield "18 tuples in each other around an impl path, {:,} bytes".format(len(symbol)), symbol + "\n"
+        yield "B, {:,} bytes".format(len(symbol)), symbol + "\n"
 
 
 def print_unprinted(program):
@@ -95,7 +118,9 @@ def print_unprinted(program):
 
 def main():
     words = argparse.ArgumentParser(description=__doc__, formatter_class=argparse.RawDescriptionHelpFormatter)
-    words.add_argument("--timeout", type=float, default=10, metavar="SECONDS", help="kill a program after so many seconds (default 10)")
+    words.add_argument(
+        "--timeout", type=float, default=10, metavar="SECONDS", help="kill a program after so many seconds of processor time (default 10)"
+    )
     words.add_argument("--all", action="store_true", help="print a row for each symbol")
     words.add_argument("--stack", type=int, metavar="KILOBYTES", help="run demangle_filter again with this stack")
     words.add_argument(
@@ -116,11 +141,8 @@ def main():
     programs += [(name, program, USUAL_STACK) for name, program in list(others()) + given.also]
     print("| seconds, MB, bytes | " + " | ".join(name for name, _, _ in programs) + " |")
     print("| --- |" + " ---: |" * len(programs))
-    for case, symbol in hostile():
-        if not given.all and case not in SHOWN:
-            continue
-        text = (symbol + "\n").encode()
-        cells = [Run(program, text, given.timeout, stack).cell() for _, program, stack in programs]
+    for case, text in rows(given.all):
+        cells = [Run(program, text.encode(), given.timeout, stack).cell() for _, program, stack in programs]
         print("| " + " | ".join([case] + cells) + " |", flush=True)
     print_unprinted(KODLIWE)
 

@@ -7,7 +7,7 @@ profile     lines as `perf script` prints them. Their symbols come by Zipf's law
             corpus, in as many variants as are needed, each with another hash or another crate's disambiguator.
 once        lines as `nm` prints them, each with another symbol.
 one pair    40 symbols that share one pair of entries in kodliwe's memo, in alternation.
-long texts  a symbol of 159 bytes that prints 1,000,020 bytes, up to the limit.
+long texts  a symbol of 159 bytes that prints 37,513 bytes, up to the limit.
 long run    a symbol of 1,000,000 bytes.
 plain       lines without a symbol.
 underscores lines without a symbol that have many underscores.
