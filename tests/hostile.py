@@ -3,8 +3,9 @@
 
 usage: hostile.py [--rust FOLDER] [--programs NAMES] [--archives NAMES] [--seed N] [--minutes M] [STEP..]
 
-It counts instructions by valgrind, so a busy machine does not matter. The texts are those of tests/hostile_texts.py: families that grow
-with a number, symbols whose cost only a limit of work could bound, and symbols by the grammar. The calls are these:
+It counts instructions by valgrind, so a busy machine does not matter, and several steps run at once. The texts are those of
+tests/hostile_texts.py: families that grow with a number, symbols whose cost only a limit of work could bound, and symbols by the
+grammar. The calls are these:
 
   rust     try_demangle, Display, demangle_text, demangle_slice and BytesFilter, plain and folded, of the Rust crate
   c        the calls of the archive that read a symbol or a text, as `make` builds it (proved) and as `make KIT=none` does (tested)
@@ -96,7 +97,7 @@ VAIN_CALLS, VAIN_C_CALL = ["demangle_slice", "BytesFilter", "BytesFilter folded"
 PAGE_GROWTH = 2.5
 # The most memory of the program, in kilobytes, without a run, and the bytes of the longest run.
 MEMORY, LONGEST = 8192, 4_000_000
-# How many measurements run at once.
+# How many steps run at once, and how many measurements of one step.
 AT_ONCE = 4
 # The most that a run which is printed in vain may cost, in what validating it first costs: alone, MANY times with a cheap run or as many
 # cheap symbols between each two, and MANY times without any.
@@ -120,6 +121,18 @@ DEAREST = 5
 # Where callgrind writes: in memory, if there is such a folder.
 DUMPS = "/dev/shm" if os.path.isdir("/dev/shm") else None
 GIVEN = argparse.Namespace()
+
+
+def once(call):
+    """Returns a function that makes this call once for each of its arguments, also if several threads ask for it."""
+    kept, lock = functools.lru_cache(maxsize=None)(call), threading.RLock()
+
+    @functools.wraps(call)
+    def asked(*arguments):
+        with lock:
+            return kept(*arguments)
+
+    return asked
 
 
 class Text:
@@ -190,7 +203,7 @@ def judged(call, ours, crates):
     return told % (most_rate, most_times, most_growth, most_output)
 
 
-@functools.lru_cache(maxsize=None)
+@once
 def rust_driver():
     """Builds the driver over both crates, and returns its path."""
     published = max(glob.glob(os.path.join(DEBIAN, "rustc-demangle-[0-9]*")), default=None)
@@ -206,7 +219,7 @@ def rust_driver():
     return os.path.join(target, "release", "hostile")
 
 
-@functools.lru_cache(maxsize=None)
+@once
 def published(name):
     """Returns what a call of the published crate takes for each text."""
     return measured(rust_driver(), name)
@@ -228,7 +241,7 @@ def archives():
         yield name, os.path.abspath(path) if path else None
 
 
-@functools.lru_cache(maxsize=None)
+@once
 def c_driver(name, path):
     """Builds the driver over an archive, and returns its path."""
     if path is None:
@@ -404,7 +417,7 @@ def no_symbols(runs):
     return [symbol for symbol, (_, symbols) in zip(runs, counts) if symbols == 0]
 
 
-@functools.lru_cache(maxsize=None)
+@once
 def vain_runs():
     """Returns the families of runs that are printed in vain."""
     families = {name: no_symbols(runs) for name, runs in hostile_texts.vain_families().items()}
@@ -533,6 +546,31 @@ def vain_search(call, most, generations, with_archives):
     return told
 
 
+def counted_steps(programs):
+    """Yields the steps that count instructions, each with its name, its call and its arguments. The longest ones come first."""
+    for call, setting in SEARCHES.items():
+        yield "printed in vain, search for %s" % call, vain_search, call, *setting
+    for call in LINEAR_SEARCHES:
+        yield "linear, search for %s" % call, linear_search, call
+    for call in CALLS:
+        yield "rust " + call, rust_call, call
+    for archive in archives():
+        for call in C_CALLS:
+            yield "c %s, %s" % (call, archive[0]), c_call, call, *archive
+        for call in LINEAR_C_CALLS:
+            yield "c %s, %s" % (call, archive[0]), linear_c, call, *archive
+    for name, program in programs:
+        yield "program %s" % name, program_call, program
+        yield "program %s, folded" % name, program_call, program, "--fold"
+        yield "program %s, linear" % name, linear_program, program
+        yield "program %s, linear, folded" % name, linear_program, program, "--fold"
+        yield "program %s, an argument" % name, argument, program
+    for call in VAIN_CALLS:
+        yield "printed in vain, %s" % call, vain_families, call
+    for archive in archives():
+        yield "printed in vain, %s, %s" % (VAIN_C_CALL, archive[0]), vain_families, VAIN_C_CALL, *archive
+
+
 def main():
     words = argparse.ArgumentParser(description=__doc__, formatter_class=argparse.RawDescriptionHelpFormatter)
     words.add_argument("--rust", metavar="FOLDER", default=RUST, help="the workspace of the Rust crate")
@@ -544,29 +582,13 @@ def main():
     words.parse_args(namespace=GIVEN)
     GIVEN.rust = os.path.abspath(GIVEN.rust)
     os.makedirs(rust_common.OUT, exist_ok=True)
-    tally = Tally(GIVEN.only)
-    for call in CALLS:
-        tally.step("rust " + call, rust_call, call)
-    for archive in archives():
-        for call in C_CALLS:
-            tally.step("c %s, %s" % (call, archive[0]), c_call, call, *archive)
-        for call in LINEAR_C_CALLS:
-            tally.step("c %s, %s" % (call, archive[0]), linear_c, call, *archive)
-    for name, program in rust_common.chosen(GIVEN.programs):
-        tally.step("program %s" % name, program_call, program)
-        tally.step("program %s, folded" % name, program_call, program, "--fold")
-        tally.step("program %s, linear" % name, linear_program, program)
-        tally.step("program %s, linear, folded" % name, linear_program, program, "--fold")
-        tally.step("program %s, an argument" % name, argument, program)
+    tally, programs = Tally(GIVEN.only), list(rust_common.chosen(GIVEN.programs))
+    with futures.ThreadPoolExecutor(AT_ONCE) as pool:
+        for step in counted_steps(programs):
+            pool.submit(tally.step, *step)
+    # These look at the time and the memory of a process, so no other step runs beside them.
+    for name, program in programs:
         tally.step("memory %s" % name, memory, program)
-    for call in VAIN_CALLS:
-        tally.step("printed in vain, %s" % call, vain_families, call)
-    for archive in archives():
-        tally.step("printed in vain, %s, %s" % (VAIN_C_CALL, archive[0]), vain_families, VAIN_C_CALL, *archive)
-    for call, setting in SEARCHES.items():
-        tally.step("printed in vain, search for %s" % call, vain_search, call, *setting)
-    for call in LINEAR_SEARCHES:
-        tally.step("linear, search for %s" % call, linear_search, call)
     tally.step("page", page)
     return tally.end()
 
