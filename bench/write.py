@@ -42,6 +42,7 @@ TABLES = [
     ("c", ["crates", "rust"], ["bench/c_speed.py", *CRATE]),
     ("stack", ["crates"], ["bench/stack.py", "--also", "kodliwe=" + KODLIWE]),
     ("hostile", ["crates"], ["bench/hostile.py", "--also", "kodliwe=" + KODLIWE]),
+    ("linear", ["crates"], ["bench/linear.py"]),
 ]
 MARKED = re.compile(r"<!-- table (\w+): sources (\w+), lines (\w+), commit (\w+), load ([\d.]+) -->\n(.*?)<!-- end -->\n", re.S)
 
@@ -69,8 +70,14 @@ def sources(folders, command):
     return sum_of("\n".join(sums))
 
 
+def is_here(commit):
+    """Returns whether the repository has this commit."""
+    return not subprocess.run(["git", "cat-file", "-e", commit + "^{commit}"], cwd=ROOT, stderr=subprocess.DEVNULL).returncode
+
+
 def check():
-    """Returns the names of the tables that are older than their files. Fails if a table is missing or not as it was written."""
+    """Returns the names of the tables that are older than their files, or whose commit is not in the repository. Fails if a table is
+    missing or not as it was written."""
     with open(PAGE, encoding="utf-8") as file:
         found = {match[1]: match for match in MARKED.finditer(file.read())}
     older = []
@@ -79,6 +86,8 @@ def check():
         assert found[name][3] == sum_of(found[name][6]), "docs/PERFORMANCE.md: the table %s is not as `make bench` wrote it" % name
         if found[name][2] != sources(folders, command):
             older.append(name)
+        elif not is_here(found[name][4]):
+            older.append("%s (no commit %s)" % (name, found[name][4]))
     return older
 
 

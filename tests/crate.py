@@ -5,6 +5,7 @@ usage: crate.py [STEP..]
 
   same        rust/ is what packaging/crate/erase.py makes of the source
   tests       the repository's tests, erased, and the crate's own: in debug and release, without std
+  examples    the programs of examples/ print what they have to
   lints       cargo fmt, clippy and doc report nothing; no lint is off but `unsafe_code`, in the modules that need it
   corpus      the stored answers, pieces and limits of crates/demangle_corpus/stdin
   damaged     50,000 damaged symbols, by calls and by both programs, against stored digests
@@ -98,6 +99,25 @@ def check_tests(rust=RUST):
         f"all {erased} tests of the source that can be erased pass; with the crate's own and those "
         f"of the documentation {debug} in debug and release, {without} without std"
     )
+
+
+# Each example, its input, and what it prints on standard output and standard error.
+EXAMPLES = [
+    ("panic_hook", b"", rb"", rb"panicked at \S+panic_hook\.rs:\d+:\d+ in mio::poll\n"),
+    ("profile", b"      3 _RINvC1a1bhE\n      1 main\n      2 _RINvC1a1bmE\n", rb" {9}5 a::b::<_>\n {9}1 main\n", rb""),
+    ("symbols", b"0 T _RNvC3foo3bar\n1 T main\n2 T _ZN3foo17h05af221e174051e9E\n", rb"0 T foo::bar\n2 T foo\n", rb""),
+]
+
+
+def check_examples(rust=RUST):
+    cargo(rust, "build", "--package", "kodliwe", "--examples")
+    folder = os.path.join(OUT, "target", "debug", "examples")
+    with os.scandir(os.path.join(rust, "kodliwe", "examples")) as files:
+        check({file.name for file in files} == {name + ".rs" for name, *_ in EXAMPLES}, "an example is not tried")
+    for name, text, *wanted in EXAMPLES:
+        ran = subprocess.run([os.path.join(folder, name)], input=text, check=True, stdout=subprocess.PIPE, stderr=subprocess.PIPE)
+        check(all(map(re.fullmatch, wanted, (ran.stdout, ran.stderr))), f"{name} printed {ran.stdout} and {ran.stderr}")
+    return f"{len(EXAMPLES)} programs"
 
 
 def check_lints(rust=RUST):
@@ -234,11 +254,12 @@ def interface_of(folder):
 
 def check_interface(rust=RUST):
     cargo(rust, "doc", *LIBRARIES, "--no-deps", "--all-features")
-    lines = [line for name in ("kodliwe", "rustc_demangle") for line in interface_of(os.path.join(OUT, "target", "doc", name))]
+    pages = {name: interface_of(os.path.join(OUT, "target", "doc", name)) for name in ("kodliwe", "rustc_demangle")}
+    lines = [f"{name} {line}" for name, found in pages.items() for line in found]
     with open(INTERFACE, encoding="utf-8") as file:
         stored = file.read().splitlines()
     new, gone = [line for line in lines if line not in stored], [line for line in stored if line not in lines]
-    check(len(lines) > 60 and not new + gone, f"write it to {INTERFACE}: new {new[:5]}, gone {gone[:5]}")
+    check(len(lines) > 60 and lines == stored, f"write it to {INTERFACE}: new {new[:5]}, gone {gone[:5]}")
     return f"{len(lines)} items, methods and traits are as stored"
 
 
@@ -314,6 +335,7 @@ def check_package():
 CHECKS = [
     ("same", check_same),
     ("tests", check_tests),
+    ("examples", check_examples),
     ("lints", check_lints),
     ("corpus", check_corpus),
     ("damaged", check_damaged),

@@ -125,8 +125,23 @@ def check_figures():
     return "older than their sources: %s" % ", ".join(older) if older else "all of today's sources"
 
 
+def check_rustc():
+    """Compares the release of rustc that the documents name with that of each package."""
+    named = {}
+    for path in ["README.md", "docs/C.md", "docs/CLIENTS.md", "docs/DECISIONS.md", "bindings/python/README.md"]:
+        with open(os.path.join(ROOT, path), encoding="utf-8") as file:
+            named[path] = set(re.findall(r"(?:rustc|Rust) (1\.\d+)", file.read()))
+    for path in sorted(glob.glob(os.path.join(ROOT, "rust", "*", "Cargo.toml"))):
+        with open(path, encoding="utf-8") as file:
+            named[os.path.relpath(path, ROOT)] = set(re.findall(r'^rust-version = "(.*)"$', file.read(), re.M))
+    releases = set.union(*named.values())
+    assert len(releases) == 1 and all(named.values()), named
+    return "%s in %d files" % (*releases, len(named))
+
+
 # How many new counts of looks each function makes. Work on a new count is in no bound.
 NEW_COUNTS = {
+    "demangle_c_string/src/lib.rt": {"write_text": 1, "write_folded_text": 1},
     "demangle_symbol/src/cursor/looks.rt": {"new": 2},
     "demangle_v0/src/parser/parse.rt": {"at_path": 1, "in_larger_stack": 1},
     "demangle_v0/src/printer.rt": {"print_validated": 1},
@@ -183,6 +198,7 @@ def main():
     tally.step("believed definitions", check_believed)
     tally.step("clauses of edits", check_edits)
     tally.step("new counts of looks", check_counts)
+    tally.step("release of rustc", check_rustc)
     tally.step("embedded texts", check_embedded)
     tally.step("measured tables", check_figures)
     return tally.end()

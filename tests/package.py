@@ -354,6 +354,8 @@ def room(work):
     said = run(["python", "-c", "import kodliwe; print(kodliwe.version())"], env=it.env, cwd=work)
     equal(said, "kodliwe 0.1.0, tested, not proved\n")
     it.timed(tests)
+    for words in ("clippy --workspace --all-targets --all-features -- -D warnings", "doc --workspace --no-deps --all-features"):
+        it.timed("cargo %s" % words, os.path.join(it.copy, "rust"))
     it.timed("make KIT=none uninstall PREFIX=" + tree)
     equal(files(tree), set())
     told = ", ".join(it.times)

@@ -27,7 +27,7 @@ It prints a line for each of these with each build, and at last how many passed:
                 follows a link, and leaves no other file
   owners        root replaces a file of another user: owner, group and permissions stay, and no bit of set-uid, set-gid or sticky; a
                 user replaces a file of another user: the group stays if it is one of theirs, and otherwise the permissions narrow
-  private       no other user may open the new file before it is complete
+  private       if FILE exists, no other user may open the new file before it is complete; otherwise it has the mode that `>` gives
   unwritable    a file that the user may not write is not replaced
   descriptors   each standard stream is closed alone, and all are: no file gets its descriptor, and a stream that is needed is an error
   kept          an error leaves the file of --output unchanged
@@ -63,13 +63,13 @@ It prints a line for each of these with each build, and at last how many passed:
   identified    two files are the same only if their devices and inodes are, and not if the system gives no inode
   no symbol     an argument in which a run starts and no symbol is, and which names a file, is noted; after an error none is
   readme        the commands of README that call the program print what README says
-  tools         each symbol in what nm, objdump and two linkers write of debug builds is replaced, with one build
-  sizes         the example of sizes prints what README says, over a debug build of the crate, with one build
+  tools         each symbol in what nm, objdump and two linkers write of debug builds is replaced
+  sizes         the example of sizes prints what README says, over a debug build of the crate
 
 `make` builds the programs. The last line is 'N passed, N failed'. A missing tool is a failure.
 """
-import argparse, bz2, fcntl, gzip, lzma, os, pty, re, resource, select, shutil, signal, socket, stat, struct, subprocess, sys
-import tempfile, termios, threading, time
+import argparse, bz2, fcntl, functools, gzip, lzma, os, pty, re, resource, select, shutil, signal, socket, stat, struct, subprocess
+import sys, tempfile, termios, threading, time
 
 import texts
 from common import CORPUS, KODLIWE, ROOT, Lacking, Tally, built, same, tool
@@ -1209,20 +1209,23 @@ def built_debug(folder, scheme="v0", *flags):
     return os.path.join(folder, "debug", "kodliwe")
 
 
+@functools.lru_cache(maxsize=None)
 def tool_texts():
-    """Yields what tools write of debug builds in both schemes: a name, the text, and the same without underscores of macOS."""
+    """Returns what tools write of debug builds in both schemes: a name, the text, and the same without underscores of macOS."""
+    rows = []
     for scheme in ("v0", "legacy"):
         for linker in ("lld", "bfd"):
             folder = os.path.join(OUT, "tools", scheme, linker)
             listed = os.path.join(folder, "link.map")
             flags = ["-C", "link-arg=-fuse-ld=" + linker, "-C", "link-arg=-Wl,-Map=" + listed]
             found = built_debug(folder, scheme, *flags)
-            yield "map of %s, %s" % (linker, scheme), read(listed), read(listed)
+            rows.append(("map of %s, %s" % (linker, scheme), read(listed), read(listed)))
         names = subprocess.check_output([tool("nm"), found])
-        yield "nm, " + scheme, names, names
-        yield "nm of macOS, " + scheme, re.sub(rb" (_(?:ZN|R).*)", rb" _\1", names), names
+        rows.append(("nm, " + scheme, names, names))
+        rows.append(("nm of macOS, " + scheme, re.sub(rb" (_(?:ZN|R).*)", rb" _\1", names), names))
         code = subprocess.check_output([tool("objdump"), "-d", "--no-show-raw-insn", found])
-        yield "objdump, " + scheme, code, code
+        rows.append(("objdump, " + scheme, code, code))
+    return rows
 
 
 def tools():
@@ -1339,6 +1342,8 @@ CHECKS = [
     identified,
     no_symbol,
     readme,
+    tools,
+    sizes,
 ]
 # What is not tried with a build, and why.
 LEFT_OUT = {
@@ -1371,8 +1376,6 @@ def main():
                 tally.step(name, in_a_folder, check)
             elif not words.only:
                 print("%s: not tried, since %s" % (name, LEFT_OUT[NOW[0], check]))
-    tally.step("tools", in_a_folder, tools)
-    tally.step("sizes", in_a_folder, sizes)
     return tally.end()
 
 

@@ -267,6 +267,10 @@ class Library(unittest.TestCase):
                 code = self.CODE + "; print(kodliwe._load()._name)"
                 said = run(code, place, KODLIWE_LIB="").stdout.decode()
                 self.assertEqual(said, "foo\n%s/lib/libkodliwe.so\n" % prefix)
+                # One next to the module comes first.
+                shutil.copy(self.file(), os.path.join(place, "libkodliwe.so"))
+                said = run(code, place, KODLIWE_LIB="").stdout.decode()
+                self.assertEqual(said, "foo\n%s/libkodliwe.so\n" % place)
 
     def test_none_is_said_in_one_line(self):
         how = b"OSError: kodliwe finds no libkodliwe.so: `make install PREFIX=%s` in Kodliwe's repository installs it"
