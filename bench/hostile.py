@@ -1,20 +1,16 @@
 #!/usr/bin/env python3
 """Runs demangle_filter and the other demanglers of this machine over symbols that are made to be costly.
 
-Each symbol is one line of standard input, but for the last row of the first table, which is a text of equal lines. It prints
-a Markdown table with a row for each symbol; for each program it has the seconds of processor time, the peak memory of the
-process in megabytes (its greatest resident set) and the bytes that it wrote, or how it failed. A program is killed when it
-has taken the timeout. The table has one symbol of each kind, and all of them with --all. With --stack, demangle_filter runs
-again with its stack limited. `make` builds it.
-
-A second table has the processor time of kodliwe, as it is and with --limit 10000, for texts whose references make a printer
-read a part that is not printed again and again: lines that are no symbols (A), and one symbol in four lengths (B), which is
-18 tuples in each other around an impl path.
+Each symbol is one line of standard input, but for the last row, which is a text of equal lines. It prints a Markdown table
+with a row for each symbol; for each program it has the seconds of processor time, the peak memory of the process in megabytes
+(its greatest resident set) and the bytes that it wrote, or how it failed. A program is killed when it has taken the timeout.
+The table has one symbol of each kind, and all of them with --all. With --stack, demangle_filter runs again with its stack
+limited. `make` builds it.
 """
 import argparse, ctypes, os, signal, subprocess, tempfile, time
 
-from measuring import FILTER, KODLIWE, further, need_programs, others
-from hostile_texts import FAMILIES, LINEAR, nested
+from measuring import FILTER, further, need_programs, others
+from hostile_texts import LINEAR
 from texts import hostile
 
 # The shell ends, and leaves the program to this process as a child, which starts when the gate opens. A child that this
@@ -39,8 +35,6 @@ LIMITED = (
     ("B, 30,102 bytes", "one B", 30_000),
     ("588 lines `_RMC0FG15FTGf_Eu`", "binders in lines", 10_000),
 )
-# The texts of the second table, and the seconds of processor time after which such a run is killed.
-LINES, LENGTHS, LONG = 500, (1_000, 10_000, 30_000, 1_000_000), 60
 
 
 def waited(pid, timeout):
@@ -97,25 +91,6 @@ def rows(is_all):
         yield case, LINEAR[family](size)
 
 
-def unprinted():
-    """Yields the texts of the second table, with their names."""
-    text = FAMILIES["A"](LINES * 2029)
-    yield "A, %d lines of %s bytes" % (LINES, "{:,}".format(text.index("\n"))), text
-    for count in LENGTHS:
-        symbol = nested("MIC0%sEC0" % ("h" * count), 18)
-        yield "B, {:,} bytes".format(len(symbol)), symbol + "\n"
-
-
-def print_unprinted(program):
-    """Prints the second table, of this program."""
-    print("\n| seconds of processor time | kodliwe | kodliwe, `--limit 10000` |")
-    print("| --- | ---: | ---: |")
-    for case, text in unprinted():
-        runs = [Run([program, *limit], text.encode(), LONG, USUAL_STACK) for limit in ([], ["--limit", "10000"])]
-        cells = [run.end or "{:.2f}".format(run.processor) for run in runs]
-        print("| " + " | ".join([case] + cells) + " |", flush=True)
-
-
 def main():
     words = argparse.ArgumentParser(description=__doc__, formatter_class=argparse.RawDescriptionHelpFormatter)
     words.add_argument(
@@ -144,7 +119,6 @@ def main():
     for case, text in rows(given.all):
         cells = [Run(program, text.encode(), given.timeout, stack).cell() for _, program, stack in programs]
         print("| " + " | ".join([case] + cells) + " |", flush=True)
-    print_unprinted(KODLIWE)
 
 
 if __name__ == "__main__":

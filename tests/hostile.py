@@ -11,10 +11,11 @@ grammar. The calls are these:
   c        the calls of the archive that read a symbol or a text, as `make` builds it (proved) and as `make KIT=none` does (tested)
   program  kodliwe, plain and with --fold, over its standard input, as `make` builds it (proved) and as cargo does; and with --limit 0
            an argument whose path has 2^18 parts
-  linear   kodliwe and the archive's calls of texts, plain and folded, with no limit, over texts whose time and output are linear only by
-           the limits that hold then: for each byte at most LINEAR_RATE instructions and OUTPUT bytes, for a double LINEAR_GROWTH times
-           the instructions
-  page     the module of the page, in node. There is no count of its instructions, so this is processor time, of a text and its double
+  linear   kodliwe, also with --hash, and the archive's calls of texts, plain and folded, with no limit, over texts whose time and output
+           are linear only by the limits that hold then: for each byte at most LINEAR_RATE instructions and OUTPUT bytes, for a double
+           LINEAR_GROWTH times the instructions
+  page     the module of the page, in node. There is no count of its instructions, so this is processor time, of a text and of one of
+           four times its size
   memory   VmHWM of each kodliwe over all of the texts: at most 8 MB, and twice the longest candidate of a symbol
   printed in vain
            BytesFilter over runs that it prints before it is known that these are no symbols, and calls that validate each run first
@@ -263,9 +264,11 @@ def program_call(program, *words):
     command = [built(program), "--hash", *words]
     start, ours = instructions(command, b""), []
     with futures.ThreadPoolExecutor(AT_ONCE) as pool:
-        sizes = pool.map(lambda text: len(run(command, input=text.bytes)), NAMED)
+        sizes = list(pool.map(lambda text: len(run(command, input=text.bytes)), NAMED))
         counts = pool.map(lambda text: instructions(command, text.bytes) - start, NAMED)
         ours = list(zip(counts, sizes))
+    most = max(size / len(text.bytes) for text, size in zip(NAMED, sizes))
+    assert most <= OUTPUT, "%.0f bytes of output a byte" % most
     return judged(" ".join(["kodliwe", *words]), ours, theirs("kodliwe"))
 
 
@@ -564,6 +567,7 @@ def counted_steps(programs):
         yield "program %s, folded" % name, program_call, program, "--fold"
         yield "program %s, linear" % name, linear_program, program
         yield "program %s, linear, folded" % name, linear_program, program, "--fold"
+        yield "program %s, linear, with hashes" % name, linear_program, program, "--hash"
         yield "program %s, an argument" % name, argument, program
     for call in VAIN_CALLS:
         yield "printed in vain, %s" % call, vain_families, call
@@ -576,7 +580,7 @@ def main():
     words.add_argument("--rust", metavar="FOLDER", default=RUST, help="the workspace of the Rust crate")
     rust_common.add_programs(words)
     words.add_argument("--archives", metavar="NAMES", default=",".join(Library.KINDS), help="the builds of the archive")
-    words.add_argument("--seed", metavar="N", type=int, help="the seed of another search for runs that are printed in vain")
+    words.add_argument("--seed", metavar="N", type=int, help="the seed of other searches")
     words.add_argument("--minutes", metavar="M", type=float, help="how long it searches for each call")
     words.add_argument("only", nargs="*", metavar="STEP", help="run these alone")
     words.parse_args(namespace=GIVEN)

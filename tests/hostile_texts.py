@@ -139,6 +139,17 @@ LINEAR = {
 }
 
 
+# The symbols that cost most for each byte, as searches found (linear_search of tests/hostile.py).
+DEAREST = {
+    "the dearest of a search": "_RMC0TTTTTTTTTTTTTC0t"
+    + "C0" * 20
+    + "hhhhC0C0hhhhC0C0hhhht"
+    + "h" * 52
+    + "EC0Be_EBd_EBc_EBb_EBa_EB9_EB8_EB7_EB6_EBc_EB4_EB3_E",
+    "the dearest if folded": "_RMC0TTTTTTTTTTTTT" + "IC0E" * 31 + "EBe_EBd_Bd_Bd_EBc_EBk_Bk_EBa_EEEB9_EB8_EB7_uTEB3_EB5_EB4_E",
+}
+
+
 def referred(part, many, before="IC0"):
     """Returns a run that has a part, references to it, and then an error."""
     return "_R" + before + part + back(len(before)) * many + "0"
