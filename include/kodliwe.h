@@ -1,7 +1,7 @@
 /* kodliwe.h: demangles Rust symbols, of the legacy scheme (_ZN..E) and of v0 (_R.., Rust RFC 2603).
  *
- * The header needs C99 or C++. It also works with C89 and a compiler that has <stdbool.h>, such as gcc and clang. The type
- * bool is the only thing in it that C89 lacks.
+ * The header needs C99 or C++. It also works with C89 and a compiler that has <stdbool.h> and <stdint.h>, such as gcc and
+ * clang. The type bool and SIZE_MAX are the only things in it that C89 lacks.
  *
  * Link with libkodliwe.so or libkodliwe.a, as `pkg-config --cflags --libs kodliwe` says. The shared library needs only the
  * C library. The archive needs memcpy, memmove, memset and strlen; only rustc_demangle needs the last.
@@ -26,7 +26,7 @@
  *     8 bytes. For one that leaves over 512 productions open at once, a call touches up to 81 KB. If symbols come from
  *     strangers, provide 96 KiB. The same holds for a handler with its own stack (sigaltstack; examples/backtrace.c).
  *
- *   - Time grows with the limit, not with out_size. If symbols may be hostile or time matters, as in a handler, call
+ *   - Time grows with the limit, if one is given, and not with out_size. If symbols may be hostile or time matters, as in a handler, call
  *     kodliwe_demangle_limited with out_size as the limit.
  */
 #ifndef KODLIWE_H
@@ -118,7 +118,7 @@ KODLIWE_API size_t kodliwe_demangle_folded(const char *symbol, size_t symbol_len
  * the _ is the first byte or follows one that no symbol may have.
  *
  * Each path is cut after at most limit bytes, as by kodliwe_demangle_limited. With KODLIWE_NO_LIMIT, the path of a symbol
- * of n bytes is cut after at most 999 n - 20 bytes, and 1,000,000 at most, so the text has at most 1,000 bytes for each of
+ * of n bytes is cut after at most 999 n - 20 bytes, and 1,000,000 at most. So the text has at most 1,000 bytes for each of
  * its own. A path is also cut where the references of its symbol would have more than 384 n bytes, or more than
  * 384,000,000, read again. So with KODLIWE_NO_LIMIT the time grows with the text alone.
  *

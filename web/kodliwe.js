@@ -156,7 +156,7 @@ function kodliweEngine() {
     }
 
     // Returns a piece of a text with its symbols demangled. Memory from `next` is free. The first room
-    // is enough if there is no limit: the piece has at most PIECE + 1 bytes and one long candidate.
+    // is enough if there is no limit: the piece has at most PIECE + 4 bytes and one long candidate.
     function demanglePiece(at, size, next, { hash, fold, limit }) {
       const print = fold ? wasm.kodliwe_demangle_text_folded : wasm.kodliwe_demangle_text;
       for (let room = 1000 * Math.min(size, PIECE + 1) + MOST + MARKER + size; ;) {

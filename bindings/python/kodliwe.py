@@ -154,7 +154,7 @@ def _buffer(size: int) -> Any:
 def _written(call: Callable[..., int], text: bytes, include_hash: bool, limit: int) -> Optional[bytes]:
     """Returns the bytes that a call writes for a text, without the NUL, or None if the call returns 0.
 
-    It calls once if no limit is given and the text is a piece, or a symbol. Otherwise a second call may need a larger buffer.
+    It calls once if no limit is given and the text is a piece, or a symbol. Otherwise it may call again, with a larger buffer.
     """
     free, size = _rooms.free, max(_KEPT, _ROOM + len(text))
     buffer = free.pop() if free and size == _KEPT else _buffer(size)
@@ -260,7 +260,7 @@ def demangle_text(text: AnyStr, hash: bool = False, limit: Optional[int] = None,
     ``$``, ``.`` or ``_``. After a letter or a digit it stays. A single ``_`` before a symbol, as macOS has it, is replaced with
     it, if the ``_`` is the first character or follows one that no symbol may have. The arguments ``hash``, ``limit`` and
     ``fold`` are those of ``demangle``, for each symbol. Without a limit, the path of a symbol of n bytes ends after at most
-    999 n - 20 bytes, and a million, so the text gets at most 1,000 bytes for each of its own. A path also ends where the
+    999 n - 20 bytes, and a million. So the text gets at most 1,000 bytes for each of its own. A path also ends where the
     references of its symbol would have more than 384 n bytes, or more than 384,000,000, read again. So without a limit the time
     grows with the text alone.
     """

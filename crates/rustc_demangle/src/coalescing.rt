@@ -125,7 +125,7 @@ pub(crate) fn write_coalesced<S: TextSink>(
     pieces.flush()
 }
 
-/// Prints a symbol into a sink in a format, passes its pieces on together, and counts its looks. A
+/// Prints a symbol into a sink in a format, and passes its pieces on together. Counts its looks. A
 /// text of up to 2,048 bytes is passed on at once.
 ///
 /// # Errors

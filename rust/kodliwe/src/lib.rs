@@ -86,5 +86,6 @@ pub use symbols::{
     demangle_text_formatted, demangle_text_limited, try_demangle,
 };
 
-/// The default limit: the most bytes that are printed for a symbol, without its suffix.
+/// The most bytes that are printed for a symbol without a limit of the caller's, without its suffix.
+/// The calls over bytes print fewer for a short one ([`Format`]).
 pub const MAX_SIZE: usize = 1_000_000;

@@ -72,7 +72,8 @@ pub fn demangle_bytes<R: BufRead, W: Write>(
     rustc_demangle::demangle_bytes(Global, input, output, include_hash)
 }
 
-/// Copies any bytes as [`demangle_bytes`] does, with each path cut at `limit` bytes.
+/// Copies any bytes as [`demangle_bytes`] does, with each path cut at `limit` bytes. What its
+/// references make it read again also cuts a path ([`RereadLimit::Linear`](crate::RereadLimit::Linear)).
 ///
 /// # Errors
 ///

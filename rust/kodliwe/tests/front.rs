@@ -195,6 +195,23 @@ fn calls_over_bytes_limit_what_is_read_again() {
     }
 }
 
+#[test]
+fn calls_over_bytes_write_at_most_1_000_bytes_for_each() {
+    let symbol = b"_RMC0FG15FTGf_Eu";
+    for format in [Format::new(), Format::new().with_folded_arguments(true)] {
+        let size = |format| demangle_slice_formatted(symbol, &mut [], format).unwrap();
+        assert!(size(format) <= 1_000 * symbol.len());
+        assert!(size(format.with_limit(MAX_SIZE)) > 1_000 * symbol.len());
+        #[cfg(feature = "stream")]
+        {
+            let mut filter = kodliwe::BytesFilter::with_format(format);
+            let (mut input, mut output) = (&symbol[..], Vec::new());
+            while filter.step(&mut input, &mut output).unwrap() {}
+            assert_eq!(output.len(), size(format));
+        }
+    }
+}
+
 #[cfg(feature = "stream")]
 mod streams {
     use super::{FOLDED, has_auto_traits, is_error};

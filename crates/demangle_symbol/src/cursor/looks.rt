@@ -49,7 +49,8 @@ impl Looks {
 
 const _: () = prove!(mem::size_of::<Looks>() == 0);
 
-/// The looks of a text that is printed before it is known to be a symbol. They occupy no bytes.
+/// The looks at runs: those that decide whether they are symbols, and those of printing. They occupy
+/// no bytes.
 #[derive(Drop)]
 pub struct RunLooks {
     /// Those that decide whether it is a symbol, and those of what is printed up to then.

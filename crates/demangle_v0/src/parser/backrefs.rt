@@ -25,7 +25,7 @@ impl Parser<'_, '_> {
     }
 
     /// Reads a back reference after its `B`, and continues at its target if `output` prints. Fails
-    /// if `output` allows fewer bytes to be read again than those after the target.
+    /// if `output` allows fewer bytes to be read again than those after the target, and one more.
     ///
     /// `unit` is the continuation at which the target begins. The frame on top of the stack then
     /// has the place after the reference.

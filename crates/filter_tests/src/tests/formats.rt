@@ -217,7 +217,7 @@ fn a_deep_list_is_folded(rt: HostRuntime) -> Result<(), Fail> {
     Ok(())
 }
 
-/// A text with three runs, each a symbol with two references. To print it reads 24 bytes again.
+/// A text with three runs, each a symbol with two references. Each uses at most 24 bytes at once.
 const REFERENCES: &[u8] =
     b"x _RINvC1a1bNtB2_1cNtB2_1dE y _RINvC1a1bNtB2_1cNtB2_1dE _RINvC1a1bNtB2_1cNtB2_1dE";
 

@@ -231,7 +231,7 @@ impl Store {
         Some(symbol)
     }
 
-    /// Prints into the buffer a run that was read, and counts the looks of printing.
+    /// Prints into the buffer a run that was read. Counts the looks of printing.
     fn print_read(
         &mut self,
         symbol: &Demangle<'_>,

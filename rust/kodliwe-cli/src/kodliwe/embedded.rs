@@ -197,8 +197,9 @@ So the output has at most 1,000 bytes for each byte of the input, and the time
 grows with the input alone.
 With this option, both may also grow with
 .IR BYTES .
-With it or without it, a path is also cut where the references of its symbol
-would have more than 384 n bytes, or more than 384,000,000, read again.
+A path is also cut where the references of its symbol would have more than
+384 n bytes, or more than 384,000,000, read again, whatever this option says.
+So at most 23,650 looks at a byte are made for each byte of the input.
 .TP
 .B \\-\\-man
 Print this page.

@@ -89,8 +89,8 @@ pub(crate) fn write_coalesced<S: TextSink>(
     pieces.flush()
 }
 
-/// Prints a symbol into a sink in a format, passes its pieces on together. A text of up to 2,048
-/// bytes is passed on at once.
+/// Prints a symbol into a sink in a format, and passes its pieces on together. A text of up to
+/// 2,048 bytes is passed on at once.
 ///
 /// # Errors
 ///

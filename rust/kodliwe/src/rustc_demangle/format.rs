@@ -43,8 +43,8 @@ pub enum RereadLimit {
     Unlimited,
     /// This many.
     Bytes(usize),
-    /// 384 for each byte of the symbol, and at most 384,000,000. So the time that a text takes is
-    /// linear in its length.
+    /// 384 for each byte of the symbol, and at most 384,000,000. If the bytes of its paths are too,
+    /// so is the time.
     Linear,
 }
 

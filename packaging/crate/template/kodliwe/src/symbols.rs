@@ -244,10 +244,11 @@ pub fn demangle_text_formatted<S: TextSink>(
 /// Writes bytes to `out` with each Rust symbol in them demangled, as far as there is room. Returns
 /// the number of bytes of the complete text.
 ///
-/// The bytes need not be UTF-8. Symbols are found as by `demangle_bytes`, and each path is cut at
-/// `limit` bytes: a symbol directly after an ASCII letter or digit stays, and a path also replaces
-/// the single `_` that macOS writes before a symbol. Returns `None` if the number exceeds
-/// `usize::MAX`.
+/// The bytes need not be UTF-8. Symbols are found as by `demangle_bytes`: one directly after an ASCII
+/// letter or digit stays, and a path also replaces the single `_` that macOS writes before a symbol.
+/// Each path is cut at `limit` bytes. What its references make it read again also cuts it
+/// ([`RereadLimit::Linear`](crate::RereadLimit::Linear)). Returns `None` if the number of bytes
+/// exceeds `usize::MAX`.
 ///
 /// ```
 /// let mut out = [0; 8];

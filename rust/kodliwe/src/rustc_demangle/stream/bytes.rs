@@ -60,8 +60,8 @@ impl<A: Allocator> BytesFilter<A> {
 }
 
 /// Writes the input, which may be any bytes, with each symbol of it demangled. Each symbol is cut
-/// at `limit` bytes before its suffix, or where its references would make a print of it read more
-/// than 384 bytes again for each of its own, or more than 384,000,000.
+/// at `limit` bytes before its suffix. It is also cut where its references would make a print read
+/// more than 384 bytes again for each of its own, or more than 384,000,000.
 ///
 /// A candidate symbol, or run, starts with `_ZN` or `_R`. It continues up to the next byte that is
 /// not an ASCII letter, a digit, `$`, `.` or `_`. A run that is not a symbol is written unchanged,

@@ -161,7 +161,7 @@ impl Store {
         Some(symbol)
     }
 
-    /// Prints into the buffer a run that was read of printing.
+    /// Prints into the buffer a run that was read.
     fn print_read(&mut self, symbol: &Demangle<'_>, format: Format) -> Printed {
         if !symbol.has_style() {
             return Printed::NoSymbol;
