@@ -6,6 +6,7 @@ ghost use Rattle.std.specs.Prelude.{◌≡◌, ◌+◌, ◌<◌, ◌≤◌, ℕ,
 ghost use Prim.Native.Nat.{min};
 ghost use Rattle.std.specs.List.{concat};
 ghost use Rattle.rustc_demangle.specs.Cut.{size};
+ghost use Rattle.rustc_demangle.specs.LinearLooks.{LooksLinear};
 ghost use Rattle.rustc_demangle.specs.Rewritten.{rewritten_in};
 ghost use Rattle.rustc_demangle.specs.Slice.{overlay};
 ghost use Rattle.rustc_demangle.specs.Stripped.{stripped};
@@ -13,7 +14,9 @@ ghost use Rattle.rustc_demangle.specs.Symbols.{handed_in};
 ghost use Rattle.demangle_c_string.specs.CString.{IsRustSymbol, path_in, path_in_text, path_within, capped, c_string, text_in, text_limit, texts};
 
 use rustc_demangle::sink::SliceSink;
-use rustc_demangle::{Demangle, Form, Format, SizeLimit, demangle_slice_formatted, try_demangle};
+use rustc_demangle::{
+    Demangle, Form, Format, RunLooks, SizeLimit, demangle_slice_counted, try_demangle,
+};
 use std::str;
 
 /// The most bytes that are printed for a symbol, without the marker and the suffix.
@@ -177,18 +180,33 @@ fn text_limit(limit: usize) -> SizeLimit
     }
 }
 
-/// Writes a text as `write_text` does, with the paths in a form, and returns the same number.
-fn write_text_in(text: &[u8], out: &mut [u8], form: Form, limit: usize) -> usize
-    ensures size { let rewritten = rewritten_in (text_in form limit) text.now in
+/// Returns the format of a text, with the paths in a form. The bytes that are read again have the
+/// limit that is linear in the length of each symbol.
+fn text_format(form: Form, limit: usize) -> Format
+    ensures { result ≡ text_in form limit }
+{
+    Format::bounded(form, text_limit(limit))
+}
+
+/// Writes a text as `write_text` does, with each path in a format, and returns the same number.
+///
+/// The looks are counted. With a linear limit of the bytes that are read again, the looks are at
+/// most 23,586 for each byte of the text.
+pub fn write_text_counted(
+    text: &[u8],
+    out: &mut [u8],
+    format: Format,
+    looks: &mut RunLooks,
+) -> usize
+    ensures size { let rewritten = rewritten_in format text.now in
         length rewritten < usize.MAX → result ≡ length rewritten + 1 }
-    ensures text { let rewritten = rewritten_in (text_in form limit) text.now in
+    ensures text { let rewritten = rewritten_in format text.now in
         length rewritten < usize.MAX →
         out.new ≡ overlay out.old (c_string (length out.old) rewritten) }
-    ensures past { usize.MAX ≤ length (rewritten_in (text_in form limit) text.now) →
-        result ≡ usize.MAX }
+    ensures past { usize.MAX ≤ length (rewritten_in format text.now) → result ≡ usize.MAX }
+    ensures linear { LooksLinear format (length text.now) looks.old looks.new }
 {
-    let format = Format::bounded(form, text_limit(limit));
-    let Some(len) = demangle_slice_formatted(text, out, format) else {
+    let Some(len) = demangle_slice_counted(text, out, format, looks) else {
         return usize::MAX;
     };
     put_nul(out, len);
@@ -220,7 +238,7 @@ pub fn write_text(text: &[u8], out: &mut [u8], include_hash: bool, limit: usize)
         include_hash,
         fold_arguments: false,
     };
-    write_text_in(text, out, form, limit)
+    write_text_counted(text, out, text_format(form, limit), &mut RunLooks::new())
 }
 
 /// Writes a text as `write_text` does, with `_` for each list of generic arguments, and returns the
@@ -238,5 +256,5 @@ pub fn write_folded_text(text: &[u8], out: &mut [u8], include_hash: bool, limit:
         include_hash,
         fold_arguments: true,
     };
-    write_text_in(text, out, form, limit)
+    write_text_counted(text, out, text_format(form, limit), &mut RunLooks::new())
 }

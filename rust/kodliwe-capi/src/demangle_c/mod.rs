@@ -157,8 +157,8 @@ pub fn kodliwe_demangle_text_folded(
 /// symbol may have. All other bytes stay unchanged.
 ///
 /// Each path is cut at `limit` bytes, and at 1,000,000 at most. If `limit` is `usize::MAX`, none is
-/// given: then a symbol of n bytes is cut at 999 n - 20 bytes, and at 1,000,000 at most, so that the
-/// text has at most 1,000 bytes for each of its own. A path is also cut where the references of its
+/// given: then a symbol of n bytes is cut at 999 n - 20 bytes, and at 1,000,000 at most. So the text
+/// has at most 1,000 bytes for each of its own. A path is also cut where the references of its
 /// symbol would make a print read more than 384 bytes again for each of its own, or more than
 /// 384,000,000. The marker `{size limit reached}` and the suffix follow a cut path.
 ///

@@ -93,9 +93,14 @@ fn text_limit(limit: usize) -> SizeLimit {
     }
 }
 
-/// Writes a text as `write_text` does, with the paths in a form, and returns the same number.
-fn write_text_in(text: &[u8], out: &mut [u8], form: Form, limit: usize) -> usize {
-    let format = Format::bounded(form, text_limit(limit));
+/// Returns the format of a text, with the paths in a form. The bytes that are read again have the
+/// limit that is linear in the length of each symbol.
+fn text_format(form: Form, limit: usize) -> Format {
+    Format::bounded(form, text_limit(limit))
+}
+
+/// Writes a text as `write_text` does, with each path in a format, and returns the same number.
+pub fn write_text_counted(text: &[u8], out: &mut [u8], format: Format) -> usize {
     let Some(len) = demangle_slice_formatted(text, out, format) else {
         return usize::MAX;
     };
@@ -120,7 +125,7 @@ pub fn write_text(text: &[u8], out: &mut [u8], include_hash: bool, limit: usize)
         include_hash,
         fold_arguments: false,
     };
-    write_text_in(text, out, form, limit)
+    write_text_counted(text, out, text_format(form, limit))
 }
 
 /// Writes a text as `write_text` does, with `_` for each list of generic arguments, and returns the
@@ -130,5 +135,5 @@ pub fn write_folded_text(text: &[u8], out: &mut [u8], include_hash: bool, limit:
         include_hash,
         fold_arguments: true,
     };
-    write_text_in(text, out, form, limit)
+    write_text_counted(text, out, text_format(form, limit))
 }
