@@ -6,7 +6,7 @@ usage: gate.py [--pid PID] [COMMAND..]
 It looks at the prover's processes once a second, those below the command, or below the process PID until that ends. At the end it
 prints a table: for each crate the processor time of its proof, of its tests' proof and of its edits, in minutes, and the minutes from
 the start and to the end of its proof. Then it prints the longest chain: the crates that were proved one after another, since each
-stands on the one before. What is proved earlier on this machine is kept and takes no time: `rt ci --anew` proves all.
+stands on the one before.
 """
 import argparse
 import glob
