@@ -346,7 +346,7 @@ def high_water_mark(program, *words):
             tail = b""
             while piece := os.read(child.stdout.fileno(), 1 << 16):
                 tail = (tail + piece)[-100:]
-                if tail.endswith(b"\nend") or tail.endswith(b"a\n"):
+                if tail.endswith(b"\nend "):
                     seen.set()
 
         reader = threading.Thread(target=read)
