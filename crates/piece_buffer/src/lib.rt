@@ -2,7 +2,11 @@
 #![tactic(auto)]
 
 ghost use Rattle.std.specs.Prelude.{◌≡◌, ◌+◌, ◌==◌, ◌≤◌, [], ◌++◌, drop, length, IsTrue, IsFalse};
+ghost use Rattle.std.specs.List.{slice_range};
 
+mod growing;
+
+pub use growing::{GrowingBuffer, MOST_GROWN};
 use std::marker::Model;
 
 /// The most bytes that the buffer holds. They are on the stack.
@@ -79,6 +83,13 @@ impl PieceBuffer {
         &self.bytes[..self.len]
     }
 
+    /// Returns the number of buffered bytes.
+    pub fn len(&self) -> usize
+        ensures { result ≡ length self.now }
+    {
+        self.len
+    }
+
     /// Returns `true` if no bytes are buffered.
     pub fn is_empty(&self) -> bool
         ensures { result ≡ (length self.now == 0) }
@@ -101,6 +112,21 @@ impl PieceBuffer {
         }
         self.len = end;
         copy(piece, &mut self.bytes[start..]);
+        true
+    }
+
+    /// Appends `len` of the buffered bytes again, from the byte `start` on. If there is no room for
+    /// them, returns `false` and changes nothing.
+    pub fn push_again(&mut self, start: usize, len: usize) -> bool
+        requires { start + len ≤ length self.old }
+        ensures held { IsTrue result → self.new ≡ self.old ++ slice_range self.old start (start + len) }
+        ensures kept { IsFalse result → self.new ≡ self.old }
+    {
+        if len > CAPACITY - self.len {
+            return false;
+        }
+        self.bytes.copy_within(start..start + len, self.len);
+        self.len += len;
         true
     }
 
