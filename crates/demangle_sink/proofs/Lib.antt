@@ -6,5 +6,6 @@ pub mod Parts
 pub mod Printed
 pub mod PrintsLemmas
 pub mod PrintsPieces
+pub mod SlicesAgain
 pub mod TextPieces
 pub mod Writing

@@ -18,11 +18,11 @@ fits-second : (a b : ℕ) (r : Option ℕ) → IsWithin (a + b) r → IsWithin b
 fits-second a b None f = tt
 fits-second a b (Some r) f = omega (arith, f)
 
-room-both : (a b : ℕ) (r : Option ℕ) → room_after b (room_after a r) ≡ room_after (a + b) r
+pub room-both : (a b : ℕ) (r : Option ℕ) → room_after b (room_after a r) ≡ room_after (a + b) r
 room-both a b None = refl
 room-both a b (Some r) = ap Some (omega arith)
 
-room-nothing : (r : Option ℕ) → room_after 0 r ≡ r
+pub room-nothing : (r : Option ℕ) → room_after 0 r ≡ r
 room-nothing None = refl
 room-nothing (Some r) = ap Some (omega arith)
 

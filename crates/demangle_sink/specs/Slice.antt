@@ -1,5 +1,6 @@
 -- The bytes of a slice after a text was written to it, and the effect of a sink on the slice.
-use Rattle.std.specs.Prelude.{◌≡◌, ℕ, ◌+◌, ◌-◌, List, [], ◌∷◌, ◌++◌, length, take, drop, refl}
+use Rattle.std.specs.Prelude.{◌≡◌, ℕ, ◌+◌, ◌-◌, ◌≤◌, Bool, true, false, List, [], ◌∷◌, ◌++◌, length, take, drop, nat_le, Option, None, Some, refl, if◌then◌else◌}
+use Rattle.std.below.core.specs.declared.int.usize.TheConstants.{MAX}
 use Rattle.std.proofs.Common.{zero, suc, sym, ap, ◌∙◌, arith}
 use Rattle.std.proofs.lemmas.List.{take-append-drop, drop_all, length-append, length-drop}
 
@@ -10,6 +11,11 @@ overlay memory text = take (length memory) text ++ drop (length text) memory
 -- the same from a place; bytes before the place are unchanged
 abbrev pub overlay_from : ℕ → List ℕ → List ℕ → List ℕ
 overlay_from place memory text = take place memory ++ overlay (drop place memory) text
+
+-- the text of n bytes, if the memory holds all of it: it starts with the first byte, and has room for all
+abbrev pub held_text : (start n : ℕ) → List ℕ → Option (List ℕ)
+held_text zero n memory = if nat_le n (length memory) then Some (take n memory) else None
+held_text (suc start) n memory = None
 
 -- A sink took these bytes of a text, and `new` has the part of the text from byte `start`. Bytes before `start` were
 -- left out. The others were written after the part that was there, as far as the memory reaches. The length of the text
@@ -81,4 +87,23 @@ WrittenPart-joined start also a b c k l m xs ys e h g = record {
       ∙ overlay_from-joined (k - start) (l - start) a first second (omega (arith, h.counted, length-drop (start - k) xs))
       ∙ ap (λ n. overlay_from (k - start) a (first ++ drop n ys)) later
       ∙ ap (overlay_from (k - start) a) (sym (drop-append (start - k) xs ys));
+}
+
+pub WrittenPart-first : (start : ℕ) (a : List ℕ) (k : ℕ) (xs : List ℕ) → WrittenPart start a k xs (overlay_from (k - start) a (drop (start - k) xs)) (k + length xs)
+WrittenPart-first start a k xs = record { counted = refl; kept = refl }
+
+-- a text that was written in one part could have been written in two
+pub WrittenPart-second : (start : ℕ) (a : List ℕ) (k : ℕ) (xs ys c : List ℕ) (m : ℕ) → WrittenPart start a k (xs ++ ys) c m
+    → WrittenPart start (overlay_from (k - start) a (drop (start - k) xs)) (k + length xs) ys c m
+WrittenPart-second start a k xs ys c m h = record {
+  counted = omega (arith, h.counted, length-append xs ys);
+  kept =
+      let l : ℕ = k + length xs in
+      let first : List ℕ = drop (start - k) xs in
+      let second : List ℕ = drop (start - l) ys in
+      let later : start - l ≡ start - k - length xs = omega arith in
+      h.kept
+      ∙ ap (overlay_from (k - start) a) (drop-append (start - k) xs ys)
+      ∙ ap (λ n. overlay_from (k - start) a (first ++ drop n ys)) (sym later)
+      ∙ sym (overlay_from-joined (k - start) (l - start) a first second (omega (arith, length-drop (start - k) xs)));
 }

@@ -1,8 +1,8 @@
 //! Sinks take printed text, one piece at a time.
 #![tactic(auto)]
 
-ghost use Rattle.std.specs.Prelude.{◌≡◌, ℕ, List, [], ◌++◌, length, Option, Bool, true, false, IsOk, OnOk, OnErr};
-ghost use Rattle.demangle_sink.specs.Sink.{IsWithin, room_after};
+ghost use Rattle.std.specs.Prelude.{◌≡◌, ◌+◌, ◌≤◌, ℕ, List, [], ◌++◌, length, Option, None, Bool, true, false, IfSome, IsOk, OnOk, OnErr};
+ghost use Rattle.demangle_sink.specs.Sink.{IsWithin, room_after, HasLength, TakesAgain, Grows};
 
 mod array_sink;
 mod chars;
@@ -15,7 +15,7 @@ mod write_sink;
 pub use array_sink::ArraySink;
 pub use chars::{put_char, put_chars};
 pub use fmt_sink::FmtSink;
-pub use limit::{SizeLimitedFmtAdapter, put_piece};
+pub use limit::{HeldText, Reread, SizeLimitedFmtAdapter, put_piece};
 pub use pieces::put_each;
 pub use slice_sink::SliceSink;
 pub use write_sink::WriteSink;
@@ -41,6 +41,12 @@ pub trait TextSink {
     // Says whether a rejected piece leaves the text and the room of the sink unchanged.
     ghost keeps: { Bool };
 
+    // Says whether the sink can take bytes again that it holds.
+    ghost copies: { Bool } = { false };
+
+    // The text that the sink took from its start on, if it holds all of it.
+    ghost held: { Self → Option (List ℕ) } = { λ _. None };
+
     /// Takes a piece.
     ///
     /// # Errors
@@ -60,8 +66,48 @@ pub trait TextSink {
     fn is_failed(&self) -> bool
         ensures { result ≡ failed self.now };
 
+    /// Returns `true` if the sink may take bytes again that it holds.
+    #[inline(always)]
+    fn can_copy(&self) -> bool {
+        false
+    }
+
+    /// Returns the number of bytes that the sink holds, or `None` if it can't take them again.
+    #[inline(always)]
+    fn held_len(&self) -> Option<usize>
+        ensures copies { IfSome result (λ n. copies ≡ true) }
+        ensures length { IfSome result (HasLength (held self.now)) }
+    {
+        None
+    }
+
+    /// Takes `len` bytes again that the sink holds, from the byte `start` on. Returns `false`, and
+    /// changes nothing, if it can't.
+    #[inline(always)]
+    fn put_again(&mut self, start: usize, len: usize) -> bool
+        requires ready { failed self.old ≡ false }
+        requires within { IfSome (held self.old) (λ bytes. start + len ≤ length bytes) }
+        ensures copies { result ≡ true → copies ≡ true }
+        ensures copied { result ≡ true → TakesAgain took (held self.old) start len self.old self.new }
+        ensures room { result ≡ true → room self.new ≡ room_after len (room self.old) }
+        ensures not_failed { failed self.new ≡ false }
+        ensures same { result ≡ false → self.new ≡ self.old }
+    {
+        // The default takes no bytes, wherever they are.
+        let _ = (start, len);
+        false
+    }
+
     ghost took_nothing: { (s : Self) → took s [] s };
 
     ghost took_joined: { (s t u : Self) (xs ys : List ℕ) →
         took s xs t → took t ys u → took s (xs ++ ys) u };
+
+    // What is held grows by what is taken.
+    ghost took_held: { (s t : Self) (xs : List ℕ) → took s xs t → Grows (held s) xs (held t) };
+
+    // A sink that takes bytes again could have taken them in two parts.
+    ghost took_split: { (s u : Self) (xs ys : List ℕ) → copies ≡ true → failed s ≡ false →
+        took s (xs ++ ys) u → (t : Self) × took s xs t × took t ys u × (failed t ≡ false)
+        × (room t ≡ room_after (length xs) (room s)) };
 }

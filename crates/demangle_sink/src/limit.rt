@@ -1,7 +1,8 @@
 //! Limits the size of the printed text, and the bytes that are read again for it.
-ghost use Rattle.std.specs.Prelude.{◌≡◌, ◌+◌, ◌<◌, ◌≤◌, [], ◌∷◌, false, None, IfNone, IfSome, OnOk};
+ghost use Rattle.std.specs.Prelude.{◌≡◌, ◌+◌, ◌-◌, ◌<◌, ◌≤◌, ◌⊎◌, [], ◌∷◌, length, max, true, false, None, IfNone, IfSome, OnOk};
+ghost use Rattle.demangle_sink.specs.Sink.{HasLength};
 ghost use Rattle.demangle_sink.specs.PutsPieces.{PutsPieces};
-ghost use Rattle.demangle_sink.specs.Limit.{Follows, GivesBack, Prints, Ready, and_one, unused};
+ghost use Rattle.demangle_sink.specs.Limit.{Counts, Follows, GivesBack, Prints, FollowsAgain, IsOver, PutsAgain, Ready, allowing, and_one, followed, unused};
 
 use crate::{SinkRefused, TextSink};
 
@@ -11,6 +12,105 @@ use crate::{SinkRefused, TextSink};
 pub struct Reread {
     pub most: Option<usize>,
     pub used: usize,
+    /// The most that were used at once.
+    pub high: usize,
+    /// How many references were followed.
+    pub references: usize,
+    /// Whether no reference led to an error, and none of the numbers became too great.
+    pub is_known: bool,
+}
+
+/// How many references are followed before the text of a target is looked up. Most symbols have no
+/// more.
+const FIRST_REFERENCES: usize = 2;
+
+/// How many lookups may find no text before there are no more.
+const LOOKUPS: u8 = 13;
+
+/// How many more lookups there may be after one that found a text.
+const MORE_LOOKUPS: u8 = 3;
+
+/// A text that a sink holds, and the bytes that its references made the parser read again.
+#[derive(Clone, Copy)]
+pub struct HeldText {
+    /// The index of its first byte in what the sink took.
+    pub start: usize,
+    pub len: usize,
+    /// How many bytes were read again.
+    pub reread: usize,
+    /// How many of them were used at once at most.
+    pub peak: usize,
+    /// How many references were followed.
+    pub references: usize,
+}
+
+impl Reread {
+    /// Says that so many bytes are used.
+    #[inline(always)]
+    fn use_at_once(&mut self, used: usize)
+        ensures { self.new ≡ record self.old { used = used; high = max self.old.high used } }
+    {
+        self.used = used;
+        if used > self.high {
+            self.high = used;
+        }
+    }
+
+    /// Follows a reference that uses so many bytes and one more. Returns `false`, and changes nothing,
+    /// if fewer are left. If their number is not limited, at most `usize::MAX` are counted. If the
+    /// reference is not counted, the other numbers are no longer known.
+    #[inline(always)]
+    fn follow(&mut self, bytes: usize, is_counted: bool) -> bool
+        ensures followed { result ≡ true → (IsOver self.old.most (self.old.used + (bytes + 1)) → ⊥) ×
+            (self.new ≡ followed self.old (bytes + 1) self.new) × (Counts self.old (bytes + 1) self.new ⊎
+            (self.new.is_known ≡ false)) }
+        ensures over { result ≡ false → IsOver self.old.most (self.old.used + (bytes + 1)) × (self.new ≡ self.old) }
+    {
+        let used = match self.most {
+            None if !is_counted => {
+                self.is_known = false;
+                return true;
+            }
+            None => self.used.saturating_add(bytes).saturating_add(1),
+            Some(most) => {
+                let Some(used) = sum_within(self.used, bytes, most) else {
+                    return false;
+                };
+                used
+            }
+        };
+        if is_counted {
+            self.use_at_once(used);
+            self.references = self.references.saturating_add(1);
+        } else {
+            self.used = used;
+            self.is_known = false;
+        }
+        true
+    }
+
+    /// Follows the references of a text that is put again. Returns `false`, and changes nothing, if
+    /// fewer bytes are left, or so many can't be counted.
+    #[inline(always)]
+    fn follow_again(&mut self, text: HeldText) -> bool
+        ensures followed { result ≡ true → FollowsAgain self.old text self.new }
+        ensures same { result ≡ false → self.new ≡ self.old }
+    {
+        if text.references == 0 {
+            return true;
+        }
+        let Some(peak) = self.used.checked_add(text.peak) else {
+            return false;
+        };
+        if self.most.is_some_and(|most| peak > most) || text.reread > text.peak {
+            return false;
+        }
+        let used = self.used + text.reread;
+        self.use_at_once(peak);
+        self.used = used;
+        self.references = self.references.saturating_add(text.references);
+        true
+    }
 }
 
 /// Returns one more than the sum of two numbers, or `None` if that is more than `most`.
@@ -35,6 +135,8 @@ pub struct SizeLimitedFmtAdapter<'s, S: TextSink> {
     reread: Reread,
     /// Whether a piece or a reference exceeded its limit.
     is_limit_reached: bool,
+    /// How many more references may be followed whose text is looked up.
+    lookups_left: u8,
 }
 
 impl<'s, S: TextSink> SizeLimitedFmtAdapter<'s, S> {
@@ -64,9 +166,21 @@ impl<'s, S: TextSink> SizeLimitedFmtAdapter<'s, S> {
             reread: Reread {
                 most: reread,
                 used: 0,
+                high: 0,
+                references: 0,
+                is_known: true,
             },
             is_limit_reached: false,
+            lookups_left: LOOKUPS,
         }
+    }
+
+    /// Allows so many more bytes to be passed to the sink. In all, at most `usize::MAX` are left.
+    pub fn allow_more(&mut self, bytes: usize)
+        ensures allowed { self.new ≡ allowing (self.new.remaining - self.old.remaining) self.old }
+        ensures most { self.new.remaining ≤ self.old.remaining + bytes }
+    {
+        self.remaining = self.remaining.saturating_add(bytes);
     }
 
     /// Counts the bytes that a reference may make the parser read again, and one more.
@@ -80,26 +194,84 @@ impl<'s, S: TextSink> SizeLimitedFmtAdapter<'s, S> {
         ensures follows { Follows self.old (bytes + 1) result self.new }
         ensures ready { OnOk result (Ready S.TextSink self.new) }
     {
-        let Some(most) = self.reread.most else {
-            return Ok(());
-        };
-        let Some(used) = sum_within(self.reread.used, bytes, most) else {
+        let is_counted = self.can_copy() && self.lookups_left > 0;
+        if !self.reread.follow(bytes, is_counted) {
             self.is_limit_reached = true;
             return Err(SinkRefused);
-        };
-        self.reread.used = used;
+        }
+        if is_counted && self.reread.references > FIRST_REFERENCES {
+            self.lookups_left -= 1;
+        }
         Ok(())
     }
 
-    /// Gives back these bytes, which were not read, and one more. Gives back none for `None`.
+    /// Returns whether the sink can take bytes again that it holds.
+    #[inline(always)]
+    pub fn can_copy(&self) -> bool {
+        self.out.can_copy()
+    }
+
+    /// Returns whether the text of the target that is next is looked up, and noted if the sink does
+    /// not hold it.
+    ///
+    /// The first references of a symbol are printed without that. So are all others after too many
+    /// lookups found no text.
+    #[inline(always)]
+    pub fn looks_up(&self) -> bool {
+        self.can_copy() && self.lookups_left > 0 && self.reread.references > FIRST_REFERENCES
+    }
+
+    /// Gives back these bytes, which were not read, and one more. Gives back none for `None`, which
+    /// says that a reference led to an error.
     #[inline(always)]
     pub fn give_back(&mut self, bytes: Option<usize>)
         ensures back { GivesBack self.old (and_one bytes) self.new }
         ensures ready { Ready S.TextSink self.old → Ready S.TextSink self.new }
     {
-        if let Some(bytes) = bytes {
-            self.reread.used = self.reread.used.saturating_sub(bytes).saturating_sub(1);
+        match bytes {
+            Some(bytes) => {
+                self.reread.used = self.reread.used.saturating_sub(bytes).saturating_sub(1);
+            }
+            None => self.reread.is_known = false,
         }
+    }
+
+    /// Returns the number of bytes that the sink holds, or `None` if it can't take them again.
+    #[inline(always)]
+    pub fn held_len(&self) -> Option<usize>
+        ensures copies { IfSome result (λ n. S.copies ≡ true) }
+        ensures length { IfSome result (HasLength (S.held self.now.out.now)) }
+    {
+        self.out.held_len()
+    }
+
+    /// Returns how many bytes are read again, and how many were at once at most.
+    #[inline(always)]
+    pub fn reread(&self) -> Reread
+        ensures { result ≡ self.now.reread }
+    {
+        self.reread
+    }
+
+    /// Puts a text that the sink holds again. Returns `false`, and changes nothing, if the text is empty
+    /// or exceeds a limit, or if the sink can't take it.
+    pub fn put_again(&mut self, text: HeldText) -> bool
+        requires ready { Ready S.TextSink self.old }
+        requires within { IfSome (S.held self.old.out.now) (λ bytes. text.start + text.len ≤ length bytes) }
+        ensures put { result ≡ true → PutsAgain S.TextSink self.old text self.new }
+        ensures same { result ≡ false → self.new ≡ self.old }
+    {
+        let reread = self.reread;
+        if text.len == 0 || text.len > self.remaining || !self.reread.follow_again(text) {
+            return false;
+        }
+        if !self.out.put_again(text.start, text.len) {
+            self.reread = reread;
+            return false;
+        }
+        self.remaining -= text.len;
+        self.lookups_left = self.lookups_left.saturating_add(MORE_LOOKUPS);
+        true
     }
 
     /// Returns `true` if a piece or a reference exceeded its limit.
