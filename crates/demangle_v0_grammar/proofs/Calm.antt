@@ -22,10 +22,10 @@ Calm pr invalid_syntax = Unit {0}
 Calm pr too_deep = Unit {0}
 Calm pr after_error = Unit {0}
 
-abbrev LevelCalm : Level → Type 0
+abbrev pub LevelCalm : Level → Type 0
 LevelCalm l = (pr : Bool) (kind : Kind) (value : Bool) (m i : ℕ) → Calm pr (l pr kind value m i).tree
 
-abbrev AllCalm : List Level → Type 0
+abbrev pub AllCalm : List Level → Type 0
 AllCalm [] = Unit {0}
 AllCalm (l ∷ ls) = LevelCalm l × AllCalm ls
 
@@ -150,14 +150,14 @@ calm (dyn_trait p) s h d i =
     (unit_calm s a_trait_path false h i, bound_calm s.printed (suc (length s.symbol)) s (parse p s) (calm p s h d) o.is_bracket_open o.place)
 calm (bindings o p) s h d i = bound_calm s.printed (suc (length s.symbol)) s (parse p s) (calm p s h d) o i
 
-level_calm : (symbol : List ℕ) (folds : Bool) (ls : List Level) → AllCalm ls → LevelCalm (level_of symbol folds ls)
+pub level_calm : (symbol : List ℕ) (folds : Bool) (ls : List Level) → AllCalm ls → LevelCalm (level_of symbol folds ls)
 unfolding level_of parse
 level_calm symbol folds ls d pr kind value m i =
     let at : Level → Bool → ℕ → Context = λ here f k. record { symbol = symbol; folds = folds; printed = f; here = here; deeper = ls; lifetimes = k } in
     let inner : Level = λ f k v o j. parse (items k v) (at nowhere f o) (Some j) in
     calm (items kind value) (at inner pr m) (λ f k v o j. calm (items k v) (at nowhere f o) (λ f' k' v' o' j'. tt) d (Some j)) d (Some i)
 
-levels_calm : (symbol : List ℕ) (folds : Bool) (n : ℕ) → AllCalm (levels symbol folds n)
+pub levels_calm : (symbol : List ℕ) (folds : Bool) (n : ℕ) → AllCalm (levels symbol folds n)
 unfolding levels
 levels_calm symbol folds zero = tt
 levels_calm symbol folds (suc n) = let d : AllCalm (levels symbol folds n) = levels_calm symbol folds n in (level_calm symbol folds (levels symbol folds n) d, d)

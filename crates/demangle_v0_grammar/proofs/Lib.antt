@@ -36,3 +36,10 @@ pub mod V0Reading
 pub mod NoErrors
 mod NoReferences
 pub mod Folded
+pub mod Forward
+pub mod EnoughDepth
+pub mod DepthRows
+pub mod OtherDepth
+pub mod Ahead
+pub mod ClimbingTrees
+pub mod PrintedAgain

@@ -57,19 +57,19 @@ cheaper z r (bindings o p) e e' k k' g g' b c d x = (x.0, x.1, omega (arith, c, 
 
 -- Choices.
 
-cond_fits : (P : Items → Type 0) (c : Bool) (p q : Items) → P p → P q → P (cond c p q)
+pub cond_fits : (P : Items → Type 0) (c : Bool) (p q : Items) → P p → P q → P (cond c p q)
 cond_fits P true p q x y = x
 cond_fits P false p q x y = y
 
-some_fits : {A : Type 0} (P : Items → Type 0) (p : Items) (o : Option A) (f : A → Items) → P p → ((v : A) → P (f v)) → P (some_or p o f)
+pub some_fits : {A : Type 0} (P : Items → Type 0) (p : Items) (o : Option A) (f : A → Items) → P p → ((v : A) → P (f v)) → P (some_or p o f)
 some_fits P p None f x y = x
 some_fits P p (Some v) f x y = y v
 
-abbrev AllRows : (Items → Type 0) → List (String × Items) → Type 0
+abbrev pub AllRows : (Items → Type 0) → List (String × Items) → Type 0
 AllRows P [] = Unit {0}
 AllRows P (r ∷ rs) = P r.1 × AllRows P rs
 
-row_fits : (P : Items → Type 0) (tag : ℕ) (p : Items) (rs : List (String × Items)) → P p → AllRows P rs → P (row_of tag p rs)
+pub row_fits : (P : Items → Type 0) (tag : ℕ) (p : Items) (rs : List (String × Items)) → P p → AllRows P rs → P (row_of tag p rs)
 row_fits P tag p [] x y = x
 row_fits P tag p (r ∷ rs) x y = cond_fits P (is_among tag _) r.1 (row_of tag p rs) y.0 (row_fits P tag p rs x y.1)
 

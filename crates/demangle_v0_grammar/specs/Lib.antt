@@ -12,3 +12,4 @@ pub mod References
 pub mod Binders
 pub mod LookTotals
 pub mod Traces
+pub mod Climbs
