@@ -24,25 +24,25 @@ use Rattle.demangle_v0_grammar.specs.Again.{path_again}
 use Rattle.demangle_v0_grammar.proofs.AgainLaw.{path_looks}
 use Rattle.demangle_v0_tokens.specs.Tokens.{texts_of}
 use Rattle.demangle_v0_grammar.specs.Traces.{Event, Trace, looks_then, texts_then, moves_in}
-use Rattle.demangle_sink.specs.Limit.{Prints, Ready, PrintsUpTo, IsOver, used_with}
+use Rattle.demangle_sink.specs.Limit.{Prints, Ready, PrintsUpTo, IsOver, used_after, followed, given_back}
 use Rattle.demangle_sink.specs.declared.TextSink.{Ghosts as Sinks}
 use Rattle.demangle_sink.specs.declared.SinkRefused.{SinkRefused}
 use Rattle.demangle_sink.specs.declared.limit.Reread.{Reread}
 use Rattle.demangle_sink.specs.declared.limit.SizeLimitedFmtAdapter.{SizeLimitedFmtAdapter}
-use Rattle.demangle_v0.specs.Traces.{Action, allows_looks, puts, with_actions, action_looks, action_texts, trace_at, trace_of_stack, remaining_trace, goes_back, comes_back}
-use Rattle.demangle_v0.specs.Steps.{Env, Machine, machine, StepPart, Stopped, Emission, gives, refers_on, ends_at, after_emission, Receives}
-use Rattle.demangle_v0.specs.Loops.{Valid, Emitted, RanSteps, StoppedAfter, Skipped, StopsInPart, printing, PrintDone, Passed, ValidUnfinished, Finishes, Ended, EndedAt, first_state, part_trace}
-use Rattle.demangle_v0.specs.declared.parser.Continuation.{Continuation}
-use Rattle.demangle_v0.specs.declared.parser.Continuation.TheVariants as continuation
-use Rattle.demangle_v0.specs.declared.parser.frames.Frame.{Frame}
-use Rattle.demangle_v0.specs.declared.parser.State.{State}
-use Rattle.demangle_v0.specs.declared.parser.steps.Checkpoint.{Checkpoint}
-use Rattle.demangle_v0.specs.declared.parser.steps.Unfinished.{Unfinished}
-use Rattle.demangle_v0.specs.declared.parser.steps.Unfinished.TheVariants as left
-use Rattle.demangle_v0.proofs.LoopLemmas.{ran_then, prefix_of, after_broke, broke_trace, broke_emits, broke_enough, allowed_bits}
+use Rattle.demangle_v0_parser.specs.Traces.{Action, allows_looks, puts, with_actions, action_looks, action_texts, trace_at, trace_of_stack, remaining_trace, goes_back, comes_back}
+use Rattle.demangle_v0_parser.specs.Steps.{Env, Machine, machine, StepPart, Stopped, Emission, gives, refers_on, ends_at, after_emission, Receives}
+use Rattle.demangle_v0_parser.specs.Loops.{Valid, Emitted, RanSteps, StoppedAfter, Skipped, StopsInPart, printing, PrintDone, Passed, ValidUnfinished, Finishes, Ended, EndedAt, first_state, part_trace}
+use Rattle.demangle_v0_parser.specs.declared.Continuation.{Continuation}
+use Rattle.demangle_v0_parser.specs.declared.Continuation.TheVariants as continuation
+use Rattle.demangle_v0_parser.specs.declared.frames.Frame.{Frame}
+use Rattle.demangle_v0_parser.specs.declared.State.{State}
+use Rattle.demangle_v0_parser.specs.declared.stops.Checkpoint.{Checkpoint}
+use Rattle.demangle_v0_parser.specs.declared.stops.Unfinished.{Unfinished}
+use Rattle.demangle_v0_parser.specs.declared.stops.Unfinished.TheVariants as left
+use Rattle.demangle_v0_parser.proofs.LoopLemmas.{ran_then, prefix_of, after_broke, broke_trace, broke_emits, broke_enough, allowed_bits}
 use Rattle.demangle_v0.proofs.SkipSteps.{skipped_trace, skipped_valid}
 use Rattle.demangle_v0_grammar.proofs.SkippedPaths.{allowances, total_allowances}
-use Rattle.demangle_v0.specs.Skips.{is_skipped}
+use Rattle.demangle_v0_parser.specs.Skips.{is_skipped}
 
 module _ {V : Type 0} {e : Env V} where
   -- the output rejected a text
@@ -154,8 +154,8 @@ finished_valid b form i j primitive_count now (left.Skipping base r) (left.Skipp
     let z = v.1 in
     rw (k.0, k.1) (v.0, record { below = z.below; height = z.height; skips = z.skips; valid = z.valid; reads = k.4 z.below v.0 z.reads z.height }, k.2, k.3)
 
-reread_ready : {S : Type 0} (sink : Sinks S) (v w : SizeLimitedFmtAdapter S) (k : Reread) → Ready sink v → w ≡ record v { reread = k } → Ready sink w
-reread_ready sink v w k r e = subst (λ (z : SizeLimitedFmtAdapter _). Ready sink z) (sym e) (record { not_failed = r.not_failed; fresh = r.fresh })
+reread_ready : {S : Type 0} (sink : Sinks S) (v w : SizeLimitedFmtAdapter S) (k : Reread) (l : ℕ) → Ready sink v → w ≡ record v { reread = k; lookups_left = l } → Ready sink w
+reread_ready sink v w k l r e = subst (λ (z : SizeLimitedFmtAdapter _). Ready sink z) (sym e) (record { not_failed = r.not_failed; fresh = r.fresh })
 
 -- The moves.
 
@@ -193,13 +193,26 @@ said_whole : (most : Option ℕ) (n used : ℕ) (ts : List Text) (ms : List Move
 said_whole most n used [] ms = refl
 said_whole most n used (t ∷ ts) ms = said_whole most n used ts ms
 
-followed_texts : (most : Option ℕ) (n used t : ℕ) (ms : List Move) → (IsOver most (used + (n - t + 1)) → ⊥) → texts_before most n used (follows t ∷ ms) ≡ texts_before most n (used_with most used (n - t + 1)) ms
-followed_texts None n used t ms h = refl
-followed_texts (Some k) n used t ms h = rw (le-leb (used + (n - t + 1)) k (omega (arith, h))) refl
+-- without a limit, nothing depends on the bytes that are used
+unlimited_texts : (n u v : ℕ) (ms : List Move) → texts_before None n u ms ≡ texts_before None n v ms
+unlimited_texts n u v [] = refl
+unlimited_texts n u v (says t ∷ ms) = ap (λ (xs : List Text). t ∷ xs) (unlimited_texts n u v ms)
+unlimited_texts n u v (follows t ∷ ms) = unlimited_texts n u v ms
+unlimited_texts n u v (ends e ∷ ms) = unlimited_texts n (u - bytes_after n e) (v - bytes_after n e) ms
 
-followed_whole : (most : Option ℕ) (n used t : ℕ) (ms : List Move) → (IsOver most (used + (n - t + 1)) → ⊥) → is_whole most n used (follows t ∷ ms) ≡ is_whole most n (used_with most used (n - t + 1)) ms
-followed_whole None n used t ms h = refl
-followed_whole (Some k) n used t ms h = rw (le-leb (used + (n - t + 1)) k (omega (arith, h))) refl
+unlimited_whole : (n u v : ℕ) (ms : List Move) → is_whole None n u ms ≡ is_whole None n v ms
+unlimited_whole n u v [] = refl
+unlimited_whole n u v (says t ∷ ms) = unlimited_whole n u v ms
+unlimited_whole n u v (follows t ∷ ms) = unlimited_whole n u v ms
+unlimited_whole n u v (ends e ∷ ms) = unlimited_whole n (u - bytes_after n e) (v - bytes_after n e) ms
+
+followed_texts : (most : Option ℕ) (n used t any : ℕ) (ms : List Move) → (IsOver most (used + (n - t + 1)) → ⊥) → texts_before most n used (follows t ∷ ms) ≡ texts_before most n (used_after most used (n - t + 1) any) ms
+followed_texts None n used t any ms h = unlimited_texts n used any ms
+followed_texts (Some k) n used t any ms h = rw (le-leb (used + (n - t + 1)) k (omega (arith, h))) refl
+
+followed_whole : (most : Option ℕ) (n used t any : ℕ) (ms : List Move) → (IsOver most (used + (n - t + 1)) → ⊥) → is_whole most n used (follows t ∷ ms) ≡ is_whole most n (used_after most used (n - t + 1) any) ms
+followed_whole None n used t any ms h = unlimited_whole n used any ms
+followed_whole (Some k) n used t any ms h = rw (le-leb (used + (n - t + 1)) k (omega (arith, h))) refl
 
 -- a reference for which too few bytes are left
 over_texts : (most : Option ℕ) (n used t : ℕ) (ms : List Move) → IsOver most (used + (n - t + 1)) → texts_before most n used (follows t ∷ ms) ≡ []
@@ -284,9 +297,11 @@ module _ {S : Type 0} (sink : Sinks S) (b : List ℕ) (form : Form) where
   begun v n = machine (first_state 0) [] v n
 
   -- the same with other bytes that are read again
-  otherwise : (v w mid : SizeLimitedFmtAdapter S) (ts : List Text) (k : Reread) → mid ≡ record v { reread = k } → Prints sink mid ts (Ok tt) (record w { reread = mid.reread }) → Prints sink v ts (Ok tt) (record w { reread = v.reread })
-  otherwise v w mid ts k e p = prints_anyway sink (record v { reread = k }) (record w { reread = k }) ts (Ok tt) v.reread
-      (subst (λ (z : SizeLimitedFmtAdapter S). Prints sink z ts (Ok tt) (record w { reread = z.reread })) e p)
+  otherwise : (v w mid : SizeLimitedFmtAdapter S) (ts : List Text) (k : Reread) (l : ℕ) → mid ≡ record v { reread = k; lookups_left = l } → Prints sink mid ts (Ok tt) (record w { reread = mid.reread })
+      → Prints sink v ts (Ok tt) (record w { reread = v.reread })
+  otherwise v w mid ts k l e p =
+      let q = subst (λ (z : SizeLimitedFmtAdapter S). Prints sink z ts (Ok tt) (record w { reread = z.reread })) e p in
+      record { same_sink = q.same_sink; reread = refl; open_ = q.open_; within = q.within; left = q.left; past = q.past; hands = q.hands }
 
   -- the texts were printed; references may have been followed
   emitted_prints : (v w : SizeLimitedFmtAdapter S) (bits : List Action) → Ready sink v → Emitted (printing sink b form) bits v w → Prints sink v (action_texts bits) (Ok tt) (record w { reread = v.reread })
@@ -295,8 +310,8 @@ module _ {S : Type 0} (sink : Sinks S) (b : List ℕ) (form : Form) where
   emitted_prints v w (puts ts ∷ bits) r t =
       let rest = emitted_prints t.0 w bits (prints_ready sink v ts (Ok tt) t.0 t.1 refl) t.2 in
       subst (λ (k : Reread). Prints sink v (ts ++ action_texts bits) (Ok tt) (record w { reread = k })) t.1.reread (prints_then sink v t.0 (record w { reread = t.0.reread }) ts (action_texts bits) (Ok tt) (Ok tt) t.1 refl rest)
-  emitted_prints v w (goes_back a ∷ bits) r t = otherwise v w t.0 (action_texts bits) _ t.1.1 (emitted_prints t.0 w bits (reread_ready sink v t.0 _ r t.1.1) t.2)
-  emitted_prints v w (comes_back x ∷ bits) r t = otherwise v w t.0 (action_texts bits) _ t.1 (emitted_prints t.0 w bits (reread_ready sink v t.0 _ r t.1) t.2)
+  emitted_prints v w (goes_back a ∷ bits) r t = otherwise v w t.0 (action_texts bits) _ _ t.1.1 (emitted_prints t.0 w bits (reread_ready sink v t.0 _ _ r t.1.1) t.2)
+  emitted_prints v w (comes_back x ∷ bits) r t = otherwise v w t.0 (action_texts bits) (given_back v.reread (bytes_after (length b) x)) v.lookups_left t.1 (emitted_prints t.0 w bits (reread_ready sink v t.0 (given_back v.reread (bytes_after (length b) x)) v.lookups_left r t.1) t.2)
 
   -- the texts of moves from here on, up to the limit of an output, and whether they are all
   abbrev texts_from : SizeLimitedFmtAdapter S → List Move → List Text
@@ -314,7 +329,7 @@ module _ {S : Type 0} (sink : Sinks S) (b : List ℕ) (form : Form) where
       ∙ (ap (λ (k : Reread). ts ++ texts_before k.most (length b) k.used (then_moves bits ms)) (sym t.1.reread)
       ∙ (ap (λ (xs : List Text). ts ++ xs) (limited_texts t.0 w bits ms t.2) ∙ sym (append_assoc ts (action_texts bits) (texts_from w ms))))
   limited_texts v w (goes_back a ∷ bits) ms t =
-      followed_texts v.reread.most (length b) v.reread.used a (then_moves bits ms) t.1.0
+      followed_texts v.reread.most (length b) v.reread.used a t.0.reread.used (then_moves bits ms) t.1.0
       ∙ (ap (λ (z : SizeLimitedFmtAdapter S). texts_from z (then_moves bits ms)) (sym t.1.1) ∙ limited_texts t.0 w bits ms t.2)
   limited_texts v w (comes_back x ∷ bits) ms t = ap (λ (z : SizeLimitedFmtAdapter S). texts_from z (then_moves bits ms)) (sym t.1) ∙ limited_texts t.0 w bits ms t.2
 
@@ -325,24 +340,26 @@ module _ {S : Type 0} (sink : Sinks S) (b : List ℕ) (form : Form) where
       said_whole v.reread.most (length b) v.reread.used ts (then_moves bits ms)
       ∙ (ap (λ (k : Reread). is_whole k.most (length b) k.used (then_moves bits ms)) (sym t.1.reread) ∙ limited_whole t.0 w bits ms t.2)
   limited_whole v w (goes_back a ∷ bits) ms t =
-      followed_whole v.reread.most (length b) v.reread.used a (then_moves bits ms) t.1.0
+      followed_whole v.reread.most (length b) v.reread.used a t.0.reread.used (then_moves bits ms) t.1.0
       ∙ (ap (λ (z : SizeLimitedFmtAdapter S). whole_from z (then_moves bits ms)) (sym t.1.1) ∙ limited_whole t.0 w bits ms t.2)
   limited_whole v w (comes_back x ∷ bits) ms t = ap (λ (z : SizeLimitedFmtAdapter S). whole_from z (then_moves bits ms)) (sym t.1) ∙ limited_whole t.0 w bits ms t.2
 
   -- no more bytes are used at once than are allowed
-  limited_use : (k u : ℕ) (v w : SizeLimitedFmtAdapter S) (bits : List Action) → v.reread ≡ record { most = Some k; used = u } → Emitted (printing sink b form) bits v w → used_in (length b) bits ≤ given_in (length b) bits + (k - u)
-  limited_use k u v w [] e t = omega arith
-  limited_use k u v w (allows_looks ks ∷ bits) e t = limited_use k u v w bits e t
-  limited_use k u v w (puts ts ∷ bits) e t = limited_use k u t.0 w bits (t.1.reread ∙ e) t.2
-  limited_use k u v w (goes_back a ∷ bits) e t =
+  limited_use : (k u : ℕ) (v w : SizeLimitedFmtAdapter S) (bits : List Action) → v.reread.most ≡ Some k → v.reread.used ≡ u → Emitted (printing sink b form) bits v w → used_in (length b) bits ≤ given_in (length b) bits + (k - u)
+  limited_use k u v w [] e f t = omega arith
+  limited_use k u v w (allows_looks ks ∷ bits) e f t = limited_use k u v w bits e f t
+  limited_use k u v w (puts ts ∷ bits) e f t = limited_use k u t.0 w bits (ap (λ (r : Reread). r.most) t.1.reread ∙ e) (ap (λ (r : Reread). r.used) t.1.reread ∙ f) t.2
+  limited_use k u v w (goes_back a ∷ bits) e f t =
       let n : ℕ = length b - a + 1 in
-      let left : t.0.reread ≡ record { most = Some k; used = u + n } = ap (λ (z : SizeLimitedFmtAdapter S). z.reread) t.1.1 ∙ ap (λ (r : Reread). record r { used = used_with r.most r.used n }) e in
-      let fits : k < u + n → ⊥ = subst (λ (r : Reread). IsOver r.most (r.used + n) → ⊥) e t.1.0 in
-      omega (arith, fits, limited_use k (u + n) t.0 w bits left t.2)
-  limited_use k u v w (comes_back x ∷ bits) e t =
+      let is : t.0.reread ≡ followed v.reread n t.0.reread = ap (λ (z : SizeLimitedFmtAdapter S). z.reread) t.1.1 in
+      let most : t.0.reread.most ≡ Some k = ap (λ (r : Reread). r.most) is ∙ e in
+      let used : t.0.reread.used ≡ u + n = ap (λ (r : Reread). r.used) is ∙ ap (λ (m : Option ℕ). used_after m v.reread.used n t.0.reread.used) e ∙ ap (λ (z : ℕ). z + n) f in
+      let fits : k < v.reread.used + n → ⊥ = subst (λ (m : Option ℕ). IsOver m (v.reread.used + n) → ⊥) e t.1.0 in
+      omega (arith, fits, f, limited_use k (u + n) t.0 w bits most used t.2)
+  limited_use k u v w (comes_back x ∷ bits) e f t =
       let n : ℕ = bytes_after (length b) x in
-      let left : t.0.reread ≡ record { most = Some k; used = u - n } = ap (λ (z : SizeLimitedFmtAdapter S). z.reread) t.1 ∙ ap (λ (r : Reread). record r { used = r.used - n }) e in
-      omega (arith, limited_use k (u - n) t.0 w bits left t.2)
+      let is : t.0.reread ≡ given_back v.reread n = ap (λ (z : SizeLimitedFmtAdapter S). z.reread) t.1 in
+      omega (arith, limited_use k (u - n) t.0 w bits (ap (λ (r : Reread). r.most) is ∙ e) (ap (λ (r : Reread). r.used) is ∙ ap (λ (z : ℕ). z - n) f) t.2)
 
   whole_moves : moves_in (remaining_trace b form true continuation.Path (first_state 0) []).events ≡ path_moves b form
   unfolding trace_at path_moves read_at
@@ -451,7 +468,7 @@ module _ {S : Type 0} (sink : Sinks S) (b : List ℕ) (form : Form) where
       → n ≤ m + (action_looks bits + 2) → n ≤ m + 20 * (length b + 1 + k)
   bits_few k m n v w bits h e t q l =
       let due : action_looks bits + 17 * given_in (length b) bits ≤ 17 * (length b + 1) + 17 * used_in (length b) bits = bits_due (17 * (length b + 1)) (length b) bits h (subst (λ (g : Trace). IsWithinBudget 17 (17 * (length b + 1)) (dues (length b) g.events) 0) q whole_dues) in
-      omega (arith, l, due, limited_use k v.reread.used v w bits (ap (λ (z : Option ℕ). record { most = z; used = v.reread.used }) e) t)
+      omega (arith, l, due, limited_use k v.reread.used v w bits e refl t)
 
   pub prints_few : {v w : SizeLimitedFmtAdapter S} {m n : ℕ} (k : ℕ) (result : Result (Unit {0}) SinkRefused) → v.reread.most ≡ Some k → Ended (printing sink b form) continuation.Path (begun v m) result w n
       → n ≤ m + 20 * (length b + 1 + k)

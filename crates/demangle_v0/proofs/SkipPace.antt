@@ -10,17 +10,17 @@ use Rattle.demangle_v0_grammar.specs.LookTotals.{allowed_in}
 use Rattle.demangle_v0_grammar.proofs.FailedRows.{allowed_looks}
 use Rattle.demangle_v0_grammar.proofs.LooksLaw.{HiddenCosts, hidden_path_costs, hidden_costs}
 use Rattle.demangle_v0_grammar.proofs.TableCost.{arguments_fit, trait_arguments_fit}
-use Rattle.demangle_v0.specs.Skips.{is_skipped}
-use Rattle.demangle_v0.specs.Traces.{trace_at}
-use Rattle.demangle_v0.specs.Loops.{part_trace, ResumesAt, pops, stays}
-use Rattle.demangle_v0.specs.Parsers.{left_at, SkipsOver, SkipsFull}
-use Rattle.demangle_v0.specs.declared.parser.Continuation.{Continuation}
-use Rattle.demangle_v0.specs.declared.parser.Continuation.TheVariants as continuation
-use Rattle.demangle_v0.specs.declared.parser.State.{State}
-use Rattle.demangle_v0.specs.declared.parser.frames.Frame.{Frame}
-use Rattle.demangle_v0.specs.declared.parser.parse.Parser.{Parser}
-use Rattle.demangle_v0.specs.declared.parser.steps.Unfinished.{Unfinished}
-use Rattle.demangle_v0.proofs.LoopLemmas.{ran_looks}
+use Rattle.demangle_v0_parser.specs.Skips.{is_skipped}
+use Rattle.demangle_v0_parser.specs.Traces.{trace_at}
+use Rattle.demangle_v0_parser.specs.Loops.{part_trace, ResumesAt, pops, stays}
+use Rattle.demangle_v0_parser.specs.Parsers.{left_at, SkipsOver, SkipsFull}
+use Rattle.demangle_v0_parser.specs.declared.Continuation.{Continuation}
+use Rattle.demangle_v0_parser.specs.declared.Continuation.TheVariants as continuation
+use Rattle.demangle_v0_parser.specs.declared.State.{State}
+use Rattle.demangle_v0_parser.specs.declared.frames.Frame.{Frame}
+use Rattle.demangle_v0_parser.specs.declared.parse.Parser.{Parser}
+use Rattle.demangle_v0_parser.specs.declared.stops.Unfinished.{Unfinished}
+use Rattle.demangle_v0_parser.proofs.LoopLemmas.{ran_looks}
 use Rattle.demangle_v0.proofs.SkipSteps.{own_is, read_own}
 
 own_costs : (b : List ℕ) (form : Form) (p : Continuation) (c left m i : ℕ) (o : Bool) → is_skipped form p ≡ true → i ≤ length b

@@ -6,33 +6,33 @@ use Rattle.std.proofs.lemmas.Bool.{false≢true}
 use Rattle.std.proofs.lemmas.List.{append-nil}
 use Rattle.std.proofs.Math.Seq.{take-append_seam}
 use Rattle.demangle_v0_grammar.specs.Traces.{Trace, of, and_then, with_looks, with_texts, context_at}
-use Rattle.demangle_v0.specs.Skips.{is_skipped, skipped_continuation, after_skip}
+use Rattle.demangle_v0_parser.specs.Skips.{is_skipped, skipped_continuation, after_skip}
 use Rattle.demangle_v0_grammar.specs.Items.{Items, a_path, a_type, done, child, leave_open}
 use Rattle.demangle_v0_grammar.specs.Table.{print_str}
 use Rattle.demangle_v0_grammar.specs.Reading.{Form, Place, unit_outcome, parse}
 use Rattle.demangle_v0_grammar.specs.LookTotals.{allowed_in}
-use Rattle.demangle_v0.specs.Measure.{most_frames, weight_left, weights, measure}
-use Rattle.demangle_v0.specs.Steps.{Machine}
-use Rattle.demangle_v0.specs.Traces.{allows_looks, with_actions, trace_at, trace_of_state, trace_of_stack, remaining_trace, with_closed_bracket}
-use Rattle.demangle_v0.specs.Loops.{ResumesAt, Valid, frame_height, Reads, ReadDone, no_output_env, no_output_machine, Skipped, StopsInPart, ReadsPart, ValidUnfinished, part_state, part_checkpoint, part_trace, state_at, first_looks}
-use Rattle.demangle_v0.specs.Parsers.{FinishesSkip, IsValid, UnfinishedIsValid, SkipsFull, SkipsOver, checked_at, checkpoint_of}
-use Rattle.demangle_v0.specs.declared.parser.parse.Parser.{Parser}
+use Rattle.demangle_v0_parser.specs.Measure.{most_frames, weight_left, weights, measure}
+use Rattle.demangle_v0_parser.specs.Steps.{Machine}
+use Rattle.demangle_v0_parser.specs.Traces.{allows_looks, with_actions, trace_at, trace_of_state, trace_of_stack, remaining_trace, with_closed_bracket}
+use Rattle.demangle_v0_parser.specs.Loops.{ResumesAt, Valid, frame_height, Reads, ReadDone, no_output_env, no_output_machine, Skipped, StopsInPart, ReadsPart, ValidUnfinished, part_state, part_checkpoint, part_trace, state_at, first_looks}
+use Rattle.demangle_v0_parser.specs.Parsers.{FinishesSkip, IsValid, UnfinishedIsValid, SkipsFull, SkipsOver, checked_at, checkpoint_of}
+use Rattle.demangle_v0_parser.specs.declared.parse.Parser.{Parser}
 use Rattle.demangle_v0_tokens.specs.declared.output.NoOutput.{NoOutput}
-use Rattle.demangle_v0.specs.declared.parser.Continuation.{Continuation}
-use Rattle.demangle_v0.specs.declared.parser.Continuation.TheVariants as continuation
-use Rattle.demangle_v0.specs.declared.parser.frames.Frame.{Frame}
-use Rattle.demangle_v0.specs.declared.parser.State.{State}
-use Rattle.demangle_v0.specs.declared.parser.steps.ReadOutcome.TheVariants as halt
-use Rattle.demangle_v0.specs.declared.parser.steps.Checkpoint.{Checkpoint}
-use Rattle.demangle_v0.specs.declared.parser.steps.Unfinished.{Unfinished}
-use Rattle.demangle_v0.specs.declared.parser.steps.Unfinished.TheVariants as left
+use Rattle.demangle_v0_parser.specs.declared.Continuation.{Continuation}
+use Rattle.demangle_v0_parser.specs.declared.Continuation.TheVariants as continuation
+use Rattle.demangle_v0_parser.specs.declared.frames.Frame.{Frame}
+use Rattle.demangle_v0_parser.specs.declared.State.{State}
+use Rattle.demangle_v0_parser.specs.declared.stops.ReadOutcome.TheVariants as halt
+use Rattle.demangle_v0_parser.specs.declared.stops.Checkpoint.{Checkpoint}
+use Rattle.demangle_v0_parser.specs.declared.stops.Unfinished.{Unfinished}
+use Rattle.demangle_v0_parser.specs.declared.stops.Unfinished.TheVariants as left
 use Rattle.demangle_v0_grammar.proofs.Folded.{folded_reads, silently_closed, silently_open}
 use Rattle.demangle_v0_grammar.proofs.TraceLemmas.{allowing_then}
-use Rattle.demangle_v0.proofs.Heights.{has_room_on}
-use Rattle.demangle_v0.proofs.LoopLemmas.{allowed_bits, reads_none, resumes_trace, resume_light, ran_then, ran_place, ran_looks, broke_fails}
+use Rattle.demangle_v0_parser.proofs.Heights.{has_room_on}
+use Rattle.demangle_v0_parser.proofs.LoopLemmas.{allowed_bits, reads_none, resumes_trace, resume_light, ran_then, ran_place, ran_looks, broke_fails}
 use Rattle.demangle_v0.proofs.WholePaths.{remaining_trace-empty_stack, over_place}
 use Rattle.demangle_v0_grammar.proofs.SkippedPaths.{allowances, skip_reads, skip_failed}
-use Rattle.demangle_v0.proofs.StepRules.{way_light}
+use Rattle.demangle_v0_parser.proofs.StepRules.{way_light}
 
 -- The start of a part that is not printed, and the continuation after it.
 
@@ -44,7 +44,7 @@ skip_unread form continuation.FirstArgument s e = omega arith
 skip_unread form continuation.FirstTraitArgument s e = omega arith
 skip_unread form p s e = absurd (false≢true e)
 
-resumes_less : (b : List ℕ) (form : Form) (out : Bool) {base : ℕ} {p q : Continuation} {s t : State} {stack now : List Frame} → ResumesAt base p s stack q t now → measure b form out q t now ≤ measure b form out p s stack
+pub resumes_less : (b : List ℕ) (form : Form) (out : Bool) {base : ℕ} {p q : Continuation} {s t : State} {stack now : List Frame} → ResumesAt base p s stack q t now → measure b form out q t now ≤ measure b form out p s stack
 resumes_less b form out {q = q} x = omega (arith, resume_light x, way_light q, ap (λ (h : Trace). allowed_in h.events) (resumes_trace b form out x))
 
 -- The trace of the part.

@@ -6,25 +6,25 @@ use Rattle.demangle_v0_grammar.specs.Traces.{Event, Trace, allows, events}
 use Rattle.demangle_v0_grammar.specs.Items.{a_path}
 use Rattle.demangle_v0_grammar.specs.Reading.{Form, Tree, nothing, piece, plain_piece, node, looked, unprinted, referred, max_depth, unit_end, read_at}
 use Rattle.demangle_v0_grammar.specs.LookTotals.{allowed_in}
-use Rattle.demangle_v0.specs.Measure.{most_frames, AllInner}
-use Rattle.demangle_v0.specs.Steps.{Machine, machine}
-use Rattle.demangle_v0.specs.Traces.{trace_at, trace_of_state, trace_of_stack, remaining_trace}
-use Rattle.demangle_v0.specs.Loops.{Valid, frame_height, EndedAt, RanSteps, ReadDone, first_state, printing, no_output_env, no_output_machine}
+use Rattle.demangle_v0_parser.specs.Measure.{most_frames, AllInner}
+use Rattle.demangle_v0_parser.specs.Steps.{Machine, machine}
+use Rattle.demangle_v0_parser.specs.Traces.{trace_at, trace_of_state, trace_of_stack, remaining_trace}
+use Rattle.demangle_v0_parser.specs.Loops.{Valid, frame_height, EndedAt, RanSteps, ReadDone, first_state, printing, no_output_env, no_output_machine}
 use Rattle.demangle_sink.specs.declared.TextSink.{Ghosts as Sinks}
 use Rattle.demangle_sink.specs.declared.limit.SizeLimitedFmtAdapter.{SizeLimitedFmtAdapter}
-use Rattle.demangle_v0.specs.declared.parser.Continuation.{Continuation}
-use Rattle.demangle_v0.specs.declared.parser.Continuation.TheVariants as continuation
-use Rattle.demangle_v0.specs.declared.parser.frames.Frame.{Frame}
-use Rattle.demangle_v0.specs.declared.parser.State.{State}
-use Rattle.demangle_v0.specs.declared.parser.steps.ReadOutcome.{ReadOutcome}
-use Rattle.demangle_v0.specs.declared.parser.steps.ReadOutcome.TheVariants as halt
+use Rattle.demangle_v0_parser.specs.declared.Continuation.{Continuation}
+use Rattle.demangle_v0_parser.specs.declared.Continuation.TheVariants as continuation
+use Rattle.demangle_v0_parser.specs.declared.frames.Frame.{Frame}
+use Rattle.demangle_v0_parser.specs.declared.State.{State}
+use Rattle.demangle_v0_parser.specs.declared.stops.ReadOutcome.{ReadOutcome}
+use Rattle.demangle_v0_parser.specs.declared.stops.ReadOutcome.TheVariants as halt
 use Rattle.demangle_v0_grammar.proofs.ParsedIffSpelled.{printing_is_spelling, reading_is_spelling}
 use Rattle.demangle_v0_grammar.proofs.FailedRows.{allowed_looks}
 use Rattle.demangle_v0_grammar.proofs.Rules.{spelled_freely}
 use Rattle.demangle_v0_grammar.proofs.TraceLemmas.{and_then_ended}
 use Rattle.demangle_v0_tokens.specs.declared.output.NoOutput.{NoOutput}
-use Rattle.demangle_v0.proofs.Heights.{stands_first}
-use Rattle.demangle_v0.proofs.LoopLemmas.{ran_place, ran_looks, broke_fails}
+use Rattle.demangle_v0_parser.proofs.Heights.{stands_first}
+use Rattle.demangle_v0_parser.proofs.LoopLemmas.{ran_place, ran_looks, broke_fails}
 
 pub valid_first : (i : ℕ) → Valid continuation.Path (first_state i) []
 valid_first i = record { has_room = stands_first frame_height most_frames (8 * max_depth + 1) (omega arith); fits = omega arith; all_fit = tt; no_pending_text = refl }

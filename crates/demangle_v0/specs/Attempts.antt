@@ -1,10 +1,10 @@
 -- Internal: no public contract cites this.
 -- What is known of a symbol whose first path was printed before it was validated.
-use Rattle.std.specs.Prelude.{◌≡◌, ℕ, Bool, List, length, Some, None, Ok, Result}
+use Rattle.std.specs.Prelude.{◌≡◌, ◌≤◌, ℕ, Bool, List, length, Some, None, Ok, Result}
 use Rattle.demangle_v0_grammar.specs.Items.{Text}
 use Rattle.demangle_v0_grammar.specs.Reading.{Form, suffix_place}
 use Rattle.demangle_v0_grammar.specs.References.{texts_before, is_whole, path_moves}
-use Rattle.demangle_sink.specs.Limit.{PrintsUpTo}
+use Rattle.demangle_sink.specs.Limit.{PrintsUpTo, allowing}
 use Rattle.demangle_sink.specs.declared.SinkRefused.{SinkRefused}
 use Rattle.demangle_sink.specs.declared.TextSink.{Ghosts as Sinks}
 use Rattle.demangle_sink.specs.declared.limit.SizeLimitedFmtAdapter.{SizeLimitedFmtAdapter}
@@ -30,7 +30,11 @@ is_whole_for v symbol form = is_whole v.reread.most (length symbol) v.reread.use
 abbrev pub PrintsPath : {S : Type 0} → Sinks S → SizeLimitedFmtAdapter S → List ℕ → Form → Result (Unit {0}) SinkRefused → SizeLimitedFmtAdapter S → Type 0
 PrintsPath sink v symbol form result w = PrintsUpTo sink v (texts_for v symbol form) (is_whole_for v symbol form) result w
 
+-- the same with at most k more bytes
+abbrev pub PrintsWithMore : {S : Type 0} → Sinks S → (k : ℕ) → SizeLimitedFmtAdapter S → List ℕ → Form → Result (Unit {0}) SinkRefused → SizeLimitedFmtAdapter S → Type 0
+PrintsWithMore sink k v symbol form result w = (more : ℕ) × (more ≤ k) × PrintsPath sink (allowing more v) symbol form result w
+
 -- if the path was printed, all of its texts, and no more bytes were read again than are allowed
-abbrev pub PrintsIfPrinted : {S : Type 0} → Sinks S → SizeLimitedFmtAdapter S → List ℕ → Form → Attempt → SizeLimitedFmtAdapter S → Type 0
-PrintsIfPrinted sink v symbol form (attempt.Printed place) w = PrintsPath sink v symbol form (Ok tt) w
-PrintsIfPrinted sink v symbol form _ w = Unit {0}
+abbrev pub PrintsIfPrinted : {S : Type 0} → Sinks S → (k : ℕ) → SizeLimitedFmtAdapter S → List ℕ → Form → Attempt → SizeLimitedFmtAdapter S → Type 0
+PrintsIfPrinted sink k v symbol form (attempt.Printed place) w = PrintsWithMore sink k v symbol form (Ok tt) w
+PrintsIfPrinted sink k v symbol form _ w = Unit {0}

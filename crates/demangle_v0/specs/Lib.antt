@@ -1,13 +1,5 @@
 -- Internal.
-pub mod Parsers
-pub mod Loops
-pub mod Skips
-pub mod Continuations
-pub mod Frames
-pub mod Measure
-pub mod Productions
-pub mod Steps
-pub mod StepRuns
-pub mod Traces
+pub mod HeldTexts
+pub mod Above
 pub mod Attempts
 pub mod Printed

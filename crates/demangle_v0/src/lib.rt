@@ -12,9 +12,11 @@ use demangle_symbol::cursor::{Looks, ParseError, RunLooks, Symbol};
 use demangle_symbol::form::Form;
 use demangle_v0_tokens::source::Source;
 
-mod fuel;
-mod parser;
+mod held_texts;
 mod printer;
+mod reading;
+mod skip;
+mod stacks;
 mod validation;
 mod value;
 
@@ -127,23 +129,31 @@ pub enum Printed<'s> {
     Unknown,
 }
 
+/// How a path is printed before it is known whether the text is a symbol.
+#[derive(Clone, Copy)]
+pub struct FirstPrint {
+    pub form: Form,
+    /// How many more bytes may be passed to the sink after the text was validated.
+    pub withheld: usize,
+}
+
 /// Reads a v0 symbol and prints its first path, and counts its looks: with hashes or without them,
 /// and with its generic arguments or with `_` for them. Returns what is known of the text then, which
 /// must be ASCII.
 ///
 /// If the path has few references, the text is read once. Otherwise, and after an error, the text is
-/// validated before the rest of the path is printed. A path that is nested deeply may be printed in
-/// part. The looks up to the end of validation are bounded by the length of the text, and by less if
+/// validated before the rest of the path is printed, and more bytes may be passed to the sink then. A
+/// path that is nested deeply may be printed in part. The looks up to the end of validation are bounded by the length of the text, and by less if
 /// the text was not validated.
 pub fn demangle_printed<'s, S: TextSink>(
     s: &'s str,
     out: &mut SizeLimitedFmtAdapter<'_, S>,
-    form: Form,
+    first: FirstPrint,
     looks: &mut RunLooks,
 ) -> Printed<'s>
     requires ascii { IsAscii s.now }
     requires ready { Ready S.TextSink out.old }
-    ensures known { IsKnown S.TextSink s.now out.old form result out.new }
+    ensures known { IsKnown S.TextSink s.now out.old first result out.new }
     ensures inner { HasLengthsWithin (length s.now) result }
     ensures grows { looks.old.accepting_looks ≤ looks.new.accepting_looks }
     ensures most { looks.new.accepting_looks ≤ looks.old.accepting_looks + 134 * (length s.now + 1) }
@@ -162,9 +172,9 @@ pub fn demangle_printed<'s, S: TextSink>(
     }
     let source = Source {
         symbol: &symbol,
-        form,
+        form: first.form,
     };
-    match print_to_suffix(source, out, looks) {
+    match print_to_suffix(source, out, first.withheld, looks) {
         Attempt::Printed(end) => Printed::Symbol(Demangle::new(symbol), &inner[end..]),
         Attempt::Read(end) => Printed::Part(Demangle::new(symbol), &inner[end..]),
         Attempt::NoPath => Printed::NoSymbol,

@@ -1,132 +1,133 @@
 //! Validates v0 symbols: parses them without output, and finds the suffix.
 ghost use Rattle.std.specs.Prelude.{◌≡◌, ℕ, ◌+◌, ◌*◌, ◌≤◌, [], length, false, true, IsAscii, IfSome, IsSome, Ok, Some};
 ghost use Rattle.demangle_v0_grammar.specs.Items.{a_path};
-ghost use Rattle.demangle_v0.specs.Parsers.{IsValid, Recounted, Same, all_of, trace_without_output};
-ghost use Rattle.demangle_v0.specs.Measure.{AllInner};
-ghost use Rattle.demangle_v0.specs.Loops.{first_state};
+ghost use Rattle.demangle_v0_parser.specs.Parsers.{IsValid, Recounted, Same, all_of, trace_without_output};
+ghost use Rattle.demangle_v0_parser.specs.Measure.{AllInner};
+ghost use Rattle.demangle_v0_parser.specs.Loops.{first_state};
 ghost use Rattle.demangle_v0_grammar.specs.Reading.{starts_second_path, unit_end, suffix_place, read_at};
 ghost use Rattle.demangle_v0_grammar.specs.LookTotals.{allowed_in};
 ghost use Rattle.demangle_v0_grammar.specs.ValidationLooks.{looks_in, suffix_looks, accepting_looks};
 ghost use Rattle.demangle_sink.specs.Limit.{Ready};
 ghost use Rattle.demangle_v0.specs.Attempts.{PrintsIfPrinted, SuffixOf};
 
-use crate::fuel::Fuel;
-use crate::parser::Continuation;
-use crate::parser::frames::{FULL_STACK, MIDDLE_STACK, SHORT_STACK, UNUSED_FRAME};
-use crate::parser::parse::Parser;
-use crate::parser::steps::{ReadOutcome, Unfinished};
+use crate::printer::{end_within, print_validated, print_within};
+use crate::reading::read_steps;
+use crate::stacks::{FULL_STACK, MIDDLE_STACK, SHORT_STACK};
 use demangle_sink::{SizeLimitedFmtAdapter, TextSink};
 use demangle_symbol::cursor::{Looks, RunLooks, Symbol};
 use demangle_symbol::form::Form;
+use demangle_v0_parser::Continuation;
+use demangle_v0_parser::frames::UNUSED_FRAME;
+use demangle_v0_parser::fuel::Fuel;
+use demangle_v0_parser::parse::Parser;
+use demangle_v0_parser::stops::{ReadOutcome, Unfinished};
 use demangle_v0_tokens::source::Source;
 
-impl Parser<'_, '_> {
-    /// Reads the rest in a stack with room for every frame. Returns the place after it, or `None`
-    /// after an error.
-    #[inline(never)]
-    fn read_in_full_stack(&mut self) -> Option<usize>
-        requires valid { IsValid self.old }
-        requires inner { AllInner self.old.stack.frames }
-        requires smaller { self.old.stack.room ≤ FULL_STACK }
-        ensures value { result ≡ (trace_without_output self.old).place }
-        ensures looks { self.new.looks ≤ self.old.looks + allowed_in (trace_without_output self.old).events }
-        ensures grows { self.old.looks ≤ self.new.looks }
-    {
-        let mut memory = [UNUSED_FRAME; FULL_STACK];
-        let mut parser = self.in_larger_stack(&mut memory);
-        let outcome = parser.read_steps(0);
-        let end = parser.place();
-        self.looks = parser.looks;
-        match outcome {
-            ReadOutcome::Complete => end,
-            // A stack with room for every frame is never full.
-            ReadOutcome::StackFull | ReadOutcome::Failed => None,
-        }
+/// Reads the rest in a stack with room for every frame. Returns the place after it, or `None`
+/// after an error.
+#[inline(never)]
+fn read_in_full_stack(parser: &mut Parser<'_, '_>) -> Option<usize>
+    requires valid { IsValid parser.old }
+    requires inner { AllInner parser.old.stack.frames }
+    requires smaller { parser.old.stack.room ≤ FULL_STACK }
+    ensures value { result ≡ (trace_without_output parser.old).place }
+    ensures looks { parser.new.looks ≤ parser.old.looks + allowed_in (trace_without_output parser.old).events }
+    ensures grows { parser.old.looks ≤ parser.new.looks }
+{
+    let mut memory = [UNUSED_FRAME; FULL_STACK];
+    let mut larger = parser.in_larger_stack(&mut memory);
+    let outcome = read_steps(&mut larger, 0);
+    let end = larger.place();
+    parser.looks = larger.looks;
+    match outcome {
+        ReadOutcome::Complete => end,
+        // A stack with room for every frame is never full.
+        ReadOutcome::StackFull | ReadOutcome::Failed => None,
     }
+}
 
-    /// Reads the rest, in the largest stack if this one is full. Returns the place after it, or
-    /// `None` after an error.
-    #[inline(always)]
-    fn read_to_end(&mut self) -> Option<usize>
-        requires valid { IsValid self.old }
-        requires inner { AllInner self.old.stack.frames }
-        requires smaller { self.old.stack.room ≤ FULL_STACK }
-        ensures value { result ≡ (trace_without_output self.old).place }
-        ensures looks { self.new.looks ≤ self.old.looks + allowed_in (trace_without_output self.old).events }
-        ensures grows { self.old.looks ≤ self.new.looks }
-    {
-        match self.read_steps(0) {
-            ReadOutcome::Complete => self.place(),
-            ReadOutcome::StackFull => self.read_in_full_stack(),
-            ReadOutcome::Failed => None,
-        }
+/// Reads the rest, in the largest stack if this one is full. Returns the place after it, or
+/// `None` after an error.
+#[inline(always)]
+fn read_to_end(parser: &mut Parser<'_, '_>) -> Option<usize>
+    requires valid { IsValid parser.old }
+    requires inner { AllInner parser.old.stack.frames }
+    requires smaller { parser.old.stack.room ≤ FULL_STACK }
+    ensures value { result ≡ (trace_without_output parser.old).place }
+    ensures looks { parser.new.looks ≤ parser.old.looks + allowed_in (trace_without_output parser.old).events }
+    ensures grows { parser.old.looks ≤ parser.new.looks }
+{
+    match read_steps(parser, 0) {
+        ReadOutcome::Complete => parser.place(),
+        ReadOutcome::StackFull => read_in_full_stack(parser),
+        ReadOutcome::Failed => None,
     }
+}
 
-    /// Reads the rest in a larger stack, and if that is full too, in the largest. Returns the place
-    /// after it, or `None` after an error.
-    #[inline(never)]
-    fn read_in_middle_stack(&mut self) -> Option<usize>
-        requires valid { IsValid self.old }
-        requires inner { AllInner self.old.stack.frames }
-        requires smaller { self.old.stack.room ≤ MIDDLE_STACK }
-        ensures value { result ≡ (trace_without_output self.old).place }
-        ensures looks { self.new.looks ≤ self.old.looks + allowed_in (trace_without_output self.old).events }
-        ensures grows { self.old.looks ≤ self.new.looks }
-        ensures parser { Recounted self.old self.new }
-    {
-        let mut memory = [UNUSED_FRAME; MIDDLE_STACK];
-        let mut parser = self.in_larger_stack(&mut memory);
-        let end = parser.read_to_end();
-        self.looks = parser.looks;
-        end
-    }
+/// Reads the rest in a larger stack, and if that is full too, in the largest. Returns the place
+/// after it, or `None` after an error.
+#[inline(never)]
+fn read_in_middle_stack(parser: &mut Parser<'_, '_>) -> Option<usize>
+    requires valid { IsValid parser.old }
+    requires inner { AllInner parser.old.stack.frames }
+    requires smaller { parser.old.stack.room ≤ MIDDLE_STACK }
+    ensures value { result ≡ (trace_without_output parser.old).place }
+    ensures looks { parser.new.looks ≤ parser.old.looks + allowed_in (trace_without_output parser.old).events }
+    ensures grows { parser.old.looks ≤ parser.new.looks }
+    ensures parser { Recounted parser.old parser.new }
+{
+    let mut memory = [UNUSED_FRAME; MIDDLE_STACK];
+    let mut larger = parser.in_larger_stack(&mut memory);
+    let end = read_to_end(&mut larger);
+    parser.looks = larger.looks;
+    end
+}
 
-    /// Reads the path at a place, with no frames on the stack. Returns the place after it, and then
-    /// leaves no frames. Returns `None` after an error.
-    fn path_end(&mut self, place: usize) -> Option<usize>
-        requires empty { self.old.stack.frames ≡ [] }
-        requires smaller { self.old.stack.room ≤ MIDDLE_STACK }
-        requires whole { self.old.source.form.fold_arguments ≡ false }
-        ensures value { result ≡ unit_end self.old.source.symbol.now a_path place 0 }
-        ensures empty { IsSome result → self.new.stack.frames ≡ [] }
-        ensures grows { self.old.looks ≤ self.new.looks }
-        ensures looks { self.new.looks ≤ self.old.looks + looks_in (read_at self.old.source.symbol.now false false
-            a_path place 0 0 true) }
-        ensures same { Same self.old self.new }
-    {
-        self.start_path(place);
-        match self.read_steps(0) {
-            ReadOutcome::Complete => self.place(),
-            ReadOutcome::StackFull => {
-                let end = self.read_in_middle_stack();
-                self.stack.truncate(0);
-                end
-            }
-            ReadOutcome::Failed => None,
+/// Reads the path at a place, with no frames on the stack. Returns the place after it, and then
+/// leaves no frames. Returns `None` after an error.
+fn path_end(parser: &mut Parser<'_, '_>, place: usize) -> Option<usize>
+    requires empty { parser.old.stack.frames ≡ [] }
+    requires smaller { parser.old.stack.room ≤ MIDDLE_STACK }
+    requires whole { parser.old.source.form.fold_arguments ≡ false }
+    ensures value { result ≡ unit_end parser.old.source.symbol.now a_path place 0 }
+    ensures empty { IsSome result → parser.new.stack.frames ≡ [] }
+    ensures grows { parser.old.looks ≤ parser.new.looks }
+    ensures looks { parser.new.looks ≤ parser.old.looks + looks_in (read_at parser.old.source.symbol.now false false
+        a_path place 0 0 true) }
+    ensures same { Same parser.old parser.new }
+{
+    parser.start_path(place);
+    match read_steps(parser, 0) {
+        ReadOutcome::Complete => parser.place(),
+        ReadOutcome::StackFull => {
+            let end = read_in_middle_stack(parser);
+            parser.stack.truncate(0);
+            end
         }
+        ReadOutcome::Failed => None,
     }
+}
 
-    /// Reads one path or two. Returns the place of the suffix after them, or `None` after an
-    /// error.
-    fn suffix(&mut self) -> Option<usize>
-        requires empty { self.old.stack.frames ≡ [] }
-        requires smaller { self.old.stack.room ≤ MIDDLE_STACK }
-        requires whole { self.old.source.form.fold_arguments ≡ false }
-        ensures value { result ≡ suffix_place self.old.source.symbol.now }
-        ensures grows { self.old.looks ≤ self.new.looks }
-        ensures looks { self.new.looks + suffix_looks self.old.source.symbol.now result ≤ self.old.looks +
-            accepting_looks self.old.source.symbol.now }
-    {
-        let Some(end) = self.path_end(0) else {
-            return None;
-        };
-        // A second path names the crate in which a generic was instantiated. It is read, so that
-        // the suffix begins after it, and never printed.
-        if begins_path(self.source.symbol, end, &mut self.looks) {
-            return self.path_end(end);
-        }
-        Some(end)
+/// Reads one path or two. Returns the place of the suffix after them, or `None` after an
+/// error.
+fn suffix(parser: &mut Parser<'_, '_>) -> Option<usize>
+    requires empty { parser.old.stack.frames ≡ [] }
+    requires smaller { parser.old.stack.room ≤ MIDDLE_STACK }
+    requires whole { parser.old.source.form.fold_arguments ≡ false }
+    ensures value { result ≡ suffix_place parser.old.source.symbol.now }
+    ensures grows { parser.old.looks ≤ parser.new.looks }
+    ensures looks { parser.new.looks + suffix_looks parser.old.source.symbol.now result ≤ parser.old.looks +
+        accepting_looks parser.old.source.symbol.now }
+{
+    let Some(end) = path_end(parser, 0) else {
+        return None;
+    };
+    // A second path names the crate in which a generic was instantiated. It is read, so that
+    // the suffix begins after it, and never printed.
+    if begins_path(parser.source.symbol, end, &mut parser.looks) {
+        return path_end(parser, end);
     }
+    Some(end)
 }
 
 /// Returns the place of the suffix after one path or two, or `None` if they have an error.
@@ -146,7 +147,7 @@ pub fn suffix_at(symbol: &Symbol<'_>, looks: &mut Looks) -> Option<usize>
     };
     let mut memory = [UNUSED_FRAME; SHORT_STACK];
     let mut parser = Parser::at_path(source, 0, &mut memory, looks);
-    let end = parser.suffix();
+    let end = suffix(&mut parser);
     *looks = parser.looks;
     end
 }
@@ -199,7 +200,7 @@ fn after_first_path(parser: &mut Parser<'_, '_>, end: usize) -> Attempt
     // Arguments are folded only when they are printed.
     parser.source.form.fold_arguments = false;
     parser.stack.truncate(0);
-    match parser.path_end(end) {
+    match path_end(parser, end) {
         Some(end) => Attempt::Printed(end),
         None => Attempt::NoPath,
     }
@@ -210,6 +211,7 @@ fn after_first_path(parser: &mut Parser<'_, '_>, end: usize) -> Attempt
 fn printed_first<S: TextSink>(
     parser: &mut Parser<'_, '_>,
     out: &mut SizeLimitedFmtAdapter<'_, S>,
+    withheld: usize,
     printing_looks: &mut Looks,
 ) -> Attempt
     requires ascii { IsAscii parser.old.source.symbol.now }
@@ -219,7 +221,7 @@ fn printed_first<S: TextSink>(
     requires empty { parser.old.stack.frames ≡ [] }
     requires smaller { parser.old.stack.room ≤ MIDDLE_STACK }
     ensures suffix { SuffixOf parser.old.source.symbol.now result }
-    ensures prints { PrintsIfPrinted S.TextSink out.old parser.old.source.symbol.now
+    ensures prints { PrintsIfPrinted S.TextSink withheld out.old parser.old.source.symbol.now
         parser.old.source.form result out.new }
     ensures grows { parser.old.looks ≤ parser.new.looks }
     ensures most { parser.new.looks ≤ parser.old.looks + 4 * all_of parser.old.fuel + 76 * (length
@@ -230,10 +232,10 @@ fn printed_first<S: TextSink>(
     ensures few { (most : ℕ) → out.old.reread.most ≡ Some most → printing_looks.new ≤
         printing_looks.old + 20 * (length parser.old.source.symbol.now + 1 + most) }
 {
-    let Ok(left) = parser.print_within(out) else {
+    let Ok(left) = print_within(parser, out) else {
         return Attempt::Unknown;
     };
-    if let Some(end) = parser.end_within(left) {
+    if let Some(end) = end_within(parser, left) {
         return after_first_path(parser, end);
     }
     let Some(end) = suffix_at(parser.source.symbol, &mut parser.looks) else {
@@ -244,7 +246,10 @@ fn printed_first<S: TextSink>(
     }
     let is_printed = match left {
         None => true,
-        Some(Unfinished::Printing) => parser.print_validated(out, printing_looks).is_ok(),
+        Some(Unfinished::Printing) => {
+            out.allow_more(withheld);
+            print_validated(parser, out, printing_looks).is_ok()
+        }
         Some(Unfinished::Skipping(_, _)) => false,
     };
     if is_printed {
@@ -258,18 +263,20 @@ fn printed_first<S: TextSink>(
 /// then.
 ///
 /// The path is printed before it is known whether the symbol is valid, until the fuel is used up.
-/// Then the symbol is validated, and only the rest of a valid one is printed. The looks up to that
-/// are bounded by the length of the symbol, and by less if it was not validated.
+/// Then the symbol is validated, and only the rest of a valid one is printed, with `withheld` more
+/// bytes. The looks up to that are bounded by the length of the symbol, and by less if it was not
+/// validated.
 pub fn print_to_suffix<S: TextSink>(
     source: Source<'_>,
     out: &mut SizeLimitedFmtAdapter<'_, S>,
+    withheld: usize,
     looks: &mut RunLooks,
 ) -> Attempt
     requires ascii { IsAscii source.symbol.now }
     requires ready { Ready S.TextSink out.old }
     ensures suffix { SuffixOf source.entry.symbol.now result }
-    ensures prints { PrintsIfPrinted S.TextSink out.old source.entry.symbol.now source.entry.form
-        result out.new }
+    ensures prints { PrintsIfPrinted S.TextSink withheld out.old source.entry.symbol.now
+        source.entry.form result out.new }
     ensures grows { looks.old.accepting_looks ≤ looks.new.accepting_looks }
     ensures most { looks.new.accepting_looks ≤ looks.old.accepting_looks + 132 * (length
         source.entry.symbol.now + 1) }
@@ -282,7 +289,7 @@ pub fn print_to_suffix<S: TextSink>(
     let mut memory = [UNUSED_FRAME; SHORT_STACK];
     let mut parser = Parser::at_path(source, 0, &mut memory, &mut looks.accepting_looks);
     parser.fuel = Fuel::for_run(source.symbol.len());
-    let result = printed_first(&mut parser, out, &mut looks.printing_looks);
+    let result = printed_first(&mut parser, out, withheld, &mut looks.printing_looks);
     looks.accepting_looks = parser.looks;
     result
 }

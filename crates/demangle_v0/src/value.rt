@@ -5,11 +5,13 @@ ghost use Rattle.demangle_sink.specs.Limit.{Ready};
 ghost use Rattle.demangle_v0_grammar.specs.Again.{path_again};
 ghost use Rattle.demangle_v0.specs.Attempts.{PrintsPath, texts_for};
 
-use crate::parser::frames::{SHORT_STACK, UNUSED_FRAME};
-use crate::parser::parse::Parser;
+use crate::printer::print_path;
+use crate::stacks::SHORT_STACK;
 use demangle_sink::{SinkRefused, SizeLimitedFmtAdapter, TextSink};
 use demangle_symbol::cursor::{Looks, Symbol};
 use demangle_symbol::form::Form;
+use demangle_v0_parser::frames::UNUSED_FRAME;
+use demangle_v0_parser::parse::Parser;
 use demangle_v0_tokens::source::Source;
 use std::marker::Model;
 
@@ -65,7 +67,7 @@ impl<'s> Demangle<'s> {
         };
         let mut memory = [UNUSED_FRAME; SHORT_STACK];
         let mut parser = Parser::at_path(source, 0, &mut memory, looks);
-        let printed = parser.print_path(out);
+        let printed = print_path(&mut parser, out);
         *looks = parser.looks;
         printed
     }

@@ -35,6 +35,9 @@ pub trait Output {
     fn is_printing(&self) -> bool
         ensures { result ≡ is_printed };
 
+    /// Returns `true` if the text of the target that is next is looked up, to be put again.
+    fn looks_up(&self) -> bool;
+
     /// Prints a token, piece by piece.
     ///
     /// # Errors
@@ -113,6 +116,11 @@ impl Output for NoOutput {
     }
 
     #[inline(always)]
+    fn looks_up(&self) -> bool {
+        false
+    }
+
+    #[inline(always)]
     fn emit(
         &mut self,
         _source: &Source<'_>,
@@ -155,6 +163,11 @@ impl<'s, S: TextSink> Output for SizeLimitedFmtAdapter<'s, S> {
     #[inline(always)]
     fn is_printing(&self) -> bool {
         true
+    }
+
+    #[inline(always)]
+    fn looks_up(&self) -> bool {
+        SizeLimitedFmtAdapter::looks_up(self)
     }
 
     #[inline(always)]

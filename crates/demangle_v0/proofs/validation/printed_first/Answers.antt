@@ -1,5 +1,5 @@
 use Rattle.std.specs.Prelude.{◌*◌}
-use Rattle.std.proofs.Common.{◌≡◌, ◌≤◌, ◌+◌, ℕ, List, Result, Ok, Err, Some, is_ok, true, length, ap, sym, arith, ◌∙◌}
+use Rattle.std.proofs.Common.{◌≡◌, ◌≤◌, ◌+◌, ◌-◌, ℕ, List, Result, Ok, Err, Some, is_ok, true, length, ap, sym, arith, ◌∙◌}
 use Rattle.std.proofs.lemmas.Bool.{false≢true}
 use Rattle.demangle_v0_grammar.specs.Reading.{Form}
 use Rattle.demangle_v0_grammar.proofs.LooksLaw.{accepting_costs}
@@ -7,22 +7,23 @@ use Rattle.demangle_sink.specs.declared.TextSink.{Ghosts as Sinks}
 use Rattle.demangle_sink.specs.declared.limit.SizeLimitedFmtAdapter.{SizeLimitedFmtAdapter}
 use Rattle.demangle_sink.specs.declared.SinkRefused.{SinkRefused}
 use Rattle.demangle_v0.specs.Attempts.{PrintsPath, PrintsIfPrinted}
-use Rattle.demangle_v0.specs.Loops.{Ended}
-use Rattle.demangle_v0.specs.Parsers.{all_of}
-use Rattle.demangle_v0.specs.Steps.{Env, Machine}
-use Rattle.demangle_v0.specs.declared.parser.Continuation.{Continuation}
+use Rattle.demangle_v0_parser.specs.Loops.{Ended}
+use Rattle.demangle_v0_parser.specs.Parsers.{all_of}
+use Rattle.demangle_v0_parser.specs.Steps.{Env, Machine}
+use Rattle.demangle_v0_parser.specs.declared.Continuation.{Continuation}
 use Rattle.demangle_v0.specs.declared.validation.Attempt.{Attempt}
 use Rattle.demangle_v0.specs.declared.validation.Attempt.TheVariants as attempt
 use Rattle.demangle_v0.proofs.WholePaths.{valid_first, printed_end}
-use Rattle.demangle_v0.proofs.PrintLoop.{ended_all, ended_apart, ended_at, prints_few, prints_so, prints_to}
+use Rattle.demangle_v0.proofs.MoreBytes.{ended_more, more_ready, without_more}
+use Rattle.demangle_v0.proofs.PrintLoop.{ended_all, ended_at, prints_few, prints_so, prints_to}
 use Rattle.demangle_v0.proofs.validation.printed_first.Goals as goal
 use Rattle.demangle_v0.proofs.validation.printed_first.Goals.{in-None, in-Some-Printing, in-Some-Skipping}
 
-if_printed : {S : Type 0} (sink : Sinks S) (v w : SizeLimitedFmtAdapter S) (symbol : List ℕ) (form : Form) (result : Attempt) → PrintsPath sink v symbol form (Ok tt) w → PrintsIfPrinted sink v symbol form result w
-if_printed sink v w symbol form (attempt.Printed place) p = p
-if_printed sink v w symbol form (attempt.Read place) p = tt
-if_printed sink v w symbol form attempt.NoPath p = tt
-if_printed sink v w symbol form attempt.Unknown p = tt
+if_printed : {S : Type 0} (sink : Sinks S) (k : ℕ) (v w : SizeLimitedFmtAdapter S) (symbol : List ℕ) (form : Form) (result : Attempt) → PrintsPath sink v symbol form (Ok tt) w → PrintsIfPrinted sink k v symbol form result w
+if_printed sink k v w symbol form (attempt.Printed place) p = without_more sink symbol form k v w symbol (Ok tt) p
+if_printed sink k v w symbol form (attempt.Read place) p = tt
+if_printed sink k v w symbol form attempt.NoPath p = tt
+if_printed sink k v w symbol form attempt.Unknown p = tt
 
 pub print_within-requires-clause-valid : goal.print_within-requires-clause-valid
 print_within-requires-clause-valid g c = rw (c.requires.path, c.requires.state, c.requires.empty) (valid_first 0)
@@ -37,7 +38,7 @@ after_first_path-requires-clause-first g c =
 pub returns-in-Some-clause-prints : goal.returns-in-Some-clause-prints
 returns-in-Some-clause-prints g c =
     let some = c.in-Some.ensures.some in
-    if_printed g.S.TextSink _ _ _ _ c.after_first_path.result
+    if_printed g.S.TextSink c.args.withheld _ _ _ _ c.after_first_path.result
     (prints_to g.S.TextSink c.args.parser.now.source.symbol.now c.args.parser.now.source.form c.requires.ready
     (rw (c.requires.path, c.requires.state, c.requires.empty) at (ended_at some.0 some.1 c.in-Ok.ensures.ran)))
 
@@ -63,12 +64,14 @@ returns-then-is_printed-clause-prints g c =
     let begun = rw (c.requires.path, c.requires.state, c.requires.empty) at c.in-Ok.ensures.ran in
     let same = c.in-Ok.ensures.same in
     elim c.match-left.branch [
-      | in-None w ↦ rw w.out-is (prints_so sink symbol form (Ok tt) c.requires.ready (ended_all w.in-None.is begun))
+      | in-None w ↦ rw w.out-is (without_more sink symbol form c.args.withheld _ _ symbol (Ok tt) (prints_so sink symbol form (Ok tt) c.requires.ready (ended_all w.in-None.is begun)))
       | in-Some-Printing w ↦
           let left = w.in-Some-Printing.is ∙ ap Some (rw w.in-Some-Printing.is at w.in-Some-Printing.field-0-is) in
           let is = sym w.is_ok-is_printed.ensures.value ∙ (sym w.is_printed-is ∙ c.if-is_printed.true) in
           let rest = rw (same.0, same.1) at w.print_validated.ensures.ended in
-          rw w.out-is (prints_so sink symbol form (Ok tt) c.requires.ready (ended_apart (Ok tt) left begun (ok_ended w.print_validated.result is rest)))
+          let k = w.allow_more.new.self.remaining - c.print_within.new.out.remaining in
+          let all = ended_more sink symbol form k w.allow_more.new.self w.print_validated.result w.allow_more.ensures.allowed left begun rest in
+          rw w.out-is (k, omega (arith, w.allow_more.ensures.most), prints_so sink symbol form (Ok tt) (more_ready sink symbol form k c.args.out.now c.requires.ready) (ok_ended w.print_validated.result is all))
       | in-Some-Skipping w ↦ absurd (false≢true (sym w.is_printed-is ∙ c.if-is_printed.true))
     ]
 
@@ -105,7 +108,8 @@ returns-then-is_printed-clause-few g c = λ k e.
       | in-Some-Printing w ↦
           let left = w.in-Some-Printing.is ∙ ap Some (rw w.in-Some-Printing.is at w.in-Some-Printing.field-0-is) in
           let rest = rw (same.0, same.1) at w.print_validated.ensures.ended in
-          let few = prints_few g.S.TextSink symbol form k w.print_validated.result e (ended_apart w.print_validated.result left begun rest) in
+          let more = w.allow_more.new.self.remaining - c.print_within.new.out.remaining in
+          let few = prints_few g.S.TextSink symbol form k w.print_validated.result e (ended_more g.S.TextSink symbol form more w.allow_more.new.self w.print_validated.result w.allow_more.ensures.allowed left begun rest) in
           rw w.printing_looks-is (omega (arith, few, c.in-Ok.ensures.grows, w.print_validated.ensures.apart))
       | in-Some-Skipping w ↦ rw w.printing_looks-is (omega arith)
     ]
@@ -121,7 +125,8 @@ returns-else-is_printed-clause-few g c = λ k e.
       | in-Some-Printing w ↦
           let left = w.in-Some-Printing.is ∙ ap Some (rw w.in-Some-Printing.is at w.in-Some-Printing.field-0-is) in
           let rest = rw (same.0, same.1) at w.print_validated.ensures.ended in
-          let few = prints_few g.S.TextSink symbol form k w.print_validated.result e (ended_apart w.print_validated.result left begun rest) in
+          let more = w.allow_more.new.self.remaining - c.print_within.new.out.remaining in
+          let few = prints_few g.S.TextSink symbol form k w.print_validated.result e (ended_more g.S.TextSink symbol form more w.allow_more.new.self w.print_validated.result w.allow_more.ensures.allowed left begun rest) in
           rw w.printing_looks-is (omega (arith, few, c.in-Ok.ensures.grows, w.print_validated.ensures.apart))
       | in-Some-Skipping w ↦ rw w.printing_looks-is (omega arith)
     ]

@@ -1,6 +1,0 @@
-use Rattle.demangle_v0.specs.Traces.{trace_at}
-use Rattle.demangle_v0.proofs.parser.parse.Parser.bindings.Goals as goal
-
-pub returns-clause-performs : goal.returns-clause-performs
-unfolding trace_at
-returns-clause-performs c = λ p. let d = c.binding.ensures.performs p in record { does = d.does; same = d.same }

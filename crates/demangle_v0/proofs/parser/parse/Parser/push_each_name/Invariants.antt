@@ -1,9 +1,0 @@
-use Rattle.std.proofs.Common.{◌≡◌, ◌++◌}
-use Rattle.demangle_v0.specs.Parsers.{restacked}
-use Rattle.demangle_v0.specs.StepRuns.{name_frames}
-use Rattle.demangle_v0.proofs.parser.parse.Parser.push_each_name.Given as goal
-
-abbrev pub invariant-loop-done : goal.invariant-loop-done
-invariant-loop-done l = record {
-  pushed : l.self ≡ restacked l.initial.self (l.initial.self.stack.frames ++ name_frames l.initial.self.state.in_value l.initial.self.state.lifetimes l.outer l.done);
-}

@@ -1,0 +1,14 @@
+use Rattle.std.proofs.Common.{arith, refl, sym, ◌∙◌}
+use Rattle.demangle_v0_grammar.specs.Table.{type_inside}
+use Rattle.demangle_v0_parser.specs.Traces.{trace_at}
+use Rattle.demangle_v0_parser.proofs.ListSteps.{second_closes, second_continues}
+use Rattle.demangle_v0_parser.proofs.TupleSteps.{next_type}
+use Rattle.demangle_v0_parser.proofs.parse.Parser.second_tuple_type.Goals as goal
+
+pub returns-then-ends_list-clause-performs : goal.returns-then-ends_list-clause-performs
+unfolding trace_at
+returns-then-ends_list-clause-performs c = λ p. rw (c.put.ensures, c.ends_list.ensures.place) (record { does = second_closes type_inside refl (sym c.ends_list.ensures.over ∙ c.if-ends_list.true) refl c.ends_list.ensures.within_budget (omega arith) (omega arith) c.requires.can_step.fits; same = (refl, refl, refl) })
+
+pub returns-clause-performs : goal.returns-clause-performs
+unfolding trace_at
+returns-clause-performs c = λ p. rw (c.put-2.ensures, c.push.ensures, c.ends_list.ensures.place) (record { does = second_continues (next_type _) refl (sym c.ends_list.ensures.over ∙ c.if-ends_list.false) refl c.ends_list.ensures.within_budget (omega arith) c.requires.can_step.fits refl; same = (refl, refl, refl) })
