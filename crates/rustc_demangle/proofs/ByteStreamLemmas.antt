@@ -15,15 +15,15 @@ use Rattle.std.proofs.lemmas.List.{append_cancel_left, drop-append-le, take-appe
 use Rattle.std.proofs.lemmas.List.Folds.{list_all-append}
 use Rattle.std.proofs.lemmas.Bool.{true≢false}
 use Rattle.std.proofs.lemmas.Bool.Decides.{nat_tests}
-use Rattle.rustc_demangle.specs.Filtered.{is_run_byte, starts_run, StartsOutsideRun}
+use Rattle.demangle_value.specs.Filtered.{is_run_byte, starts_run, StartsOutsideRun}
 use Rattle.rustc_demangle.specs.Rewritten.{before_after, starts_underscored_run, starts_candidate, rewritten_by, IsPlainLen}
 use Rattle.rustc_demangle.specs.ByteStream.{Unwritten, unwritten, from_start, followed_by, SplitsNoCandidate, IsPartialRun, IsPartialCandidate, FilteredPrefix, StepFiltered, StepFinished, StepFailed, BytesStopped}
 use Rattle.rustc_demangle.specs.declared.byte_before.ByteBefore.{ByteBefore}
 use Rattle.rustc_demangle.specs.declared.byte_before.ByteBefore.TheVariants.{Outside, Alphanumeric, Mark}
 use Rattle.rustc_demangle.specs.declared.stream.fault.StreamFault.{StreamFault}
 use Rattle.rustc_demangle.specs.declared.stream.fault.StreamFault.TheVariants.{Read, NotUtf8, Write, Memory}
-use Rattle.rustc_demangle.proofs.Searches.{no_mark}
-use Rattle.rustc_demangle.proofs.RunStarts.{all_prefix, all_of_prefix, after_prefix, far, and_left, and_right}
+use Rattle.demangle_value.proofs.Searches.{no_mark}
+use Rattle.demangle_value.proofs.RunStarts.{all_prefix, all_of_prefix, after_prefix, far, and_left, and_right}
 use Rattle.rustc_demangle.proofs.CandidateLemmas.{or_false, candidate_more, candidate_cases, candidate_of, candidate_some, candidate_prefix, run_candidate, before_after-append, rewritten_nothing, rewritten_candidate, rewritten_split, rewritten_plain, HasNoCandidate, cuts_plain, plain_of}
 
 -- nothing was filtered

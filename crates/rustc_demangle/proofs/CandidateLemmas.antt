@@ -6,13 +6,13 @@ use Rattle.std.proofs.lemmas.List.{take-append-le, take-append-drop, drop_all}
 use Rattle.std.proofs.lemmas.List.Sums.{prefix_len-le-length, take_while-cons}
 use Rattle.std.proofs.lemmas.List.Folds.{prefix_len-append}
 use Rattle.std.proofs.lemmas.Bool.{true≢false}
-use Rattle.rustc_demangle.specs.Filtered.{is_run_byte, starts_run, StartsOutsideRun}
+use Rattle.demangle_value.specs.Filtered.{is_run_byte, starts_run, StartsOutsideRun}
 use Rattle.rustc_demangle.specs.Rewritten.{before_of, before_after, starts_underscored_run, starts_candidate, rewritten_by, EndsSingle}
 use Rattle.rustc_demangle.specs.ByteStream.{SplitsNoCandidate}
 use Rattle.rustc_demangle.specs.declared.byte_before.ByteBefore.{ByteBefore}
 use Rattle.rustc_demangle.specs.declared.byte_before.ByteBefore.TheVariants.{Outside, Alphanumeric, Mark}
-use Rattle.rustc_demangle.proofs.RunLemmas.{first_of_run, run_some}
-use Rattle.rustc_demangle.proofs.RunStarts.{begins_more, begins_prefix, all_of_prefix, prefix_of_all, no_prefix, and_left, and_right}
+use Rattle.demangle_value.proofs.RunLemmas.{first_of_run, run_some}
+use Rattle.demangle_value.proofs.RunStarts.{begins_more, begins_prefix, all_of_prefix, prefix_of_all, no_prefix, and_left, and_right}
 
 or_true : (b : Bool) → (b || true) ≡ true
 or_true true = refl

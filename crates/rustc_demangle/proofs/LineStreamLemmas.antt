@@ -13,7 +13,7 @@ use Rattle.std.specs.Io.KnownBytes.{Appends}
 use Rattle.std.specs.Io.BufRead.{take_through, drop_through, DropsThrough}
 use Rattle.std.proofs.KnownBytes.{Appends-trans, Appends-nil}
 use Rattle.std.proofs.BufReadLemmas.{take_through_nonempty}
-use Rattle.rustc_demangle.specs.Filtered.{filtered}
+use Rattle.demangle_value.specs.Filtered.{filtered}
 use Rattle.rustc_demangle.specs.Lines.{lines}
 use Rattle.rustc_demangle.specs.LineStream.{output_of, WroteLines, Finished, StreamStopped, LineCopied, IsReaderFault}
 use Rattle.rustc_demangle.specs.declared.stream.fault.StreamFault.{StreamFault}

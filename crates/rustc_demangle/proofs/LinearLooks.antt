@@ -1,32 +1,17 @@
 -- Looks with a linear limit of the bytes that are read again.
-use Prim.Native.Nat.{min}
 use Rattle.std.specs.Prelude.{[]}
 use Rattle.std.proofs.Common.{◌≡◌, ℕ, ◌+◌, ◌*◌, ◌≤◌, ◌<◌, List, length, take, drop, length-append, Option, Some, None, IfSome, arith, refl, ap}
-use Rattle.std.proofs.Math.Nat.{min-le_right}
 use Rattle.std.proofs.lemmas.List.{length-take}
 use Rattle.std.proofs.KnownBytes.{starts_with_rest}
 use Rattle.std.specs.Io.{StartsWith}
 use Rattle.std.specs.Io.KnownBytes.{Consumes}
 use Rattle.demangle_symbol.specs.declared.cursor.looks.RunLooks.{RunLooks}
 use Rattle.rustc_demangle.specs.ByteStream.{Unwritten, from_start, IsWriting, ChunkFailed}
-use Rattle.rustc_demangle.specs.Limits.{reread_within, text_format}
-use Rattle.rustc_demangle.specs.LinearLooks.{LooksPaid, LooksLinear, NoLooksUnread, PrintsLinear, StepPaid}
-use Rattle.rustc_demangle.specs.Stripped.{stripped}
-use Rattle.rustc_demangle.specs.Symbols.{PrintingLooksIn}
-use Rattle.rustc_demangle.specs.declared.format.Format.{Format}
+use Rattle.rustc_demangle.specs.LinearLooks.{LooksPaid, LooksLinear, NoLooksUnread, StepPaid}
+use Rattle.demangle_value.specs.LinearPrinting.{PrintsLinear}
+use Rattle.demangle_value.specs.declared.format.Format.{Format}
 use Rattle.rustc_demangle.specs.declared.stream.fault.StreamFault.{StreamFault}
 use Rattle.rustc_demangle.specs.declared.stream.fault.StreamFault.TheVariants.{Read, NotUtf8, Write, Memory}
-use Rattle.rustc_demangle.proofs.Stripping.{stripped-shorter}
-
--- the bytes of a text of n bytes that are read again bound the looks of printing it, and so do those of a longer one
-pub few_linear : (format : Format) (n m old new : ℕ) → n ≤ m → ((k : ℕ) → (text_format format n).reread ≡ Some k → new ≤ old + 20 * (n + 1 + k)) → PrintsLinear format 1 m old new
-few_linear format n m old new within few = λ e.
-    let low : min 384000000 (384 * n) ≤ 384 * n = min-le_right 384000000 (384 * n) in
-    let some : new ≤ old + 20 * (n + 1 + min 384000000 (384 * n)) = few (min 384000000 (384 * n)) (ap (λ r. reread_within r n) e) in
-    omega (arith, some, low, within)
-
-pub prints_linear : (format : Format) (text run : List ℕ) (old new : ℕ) → text ≡ stripped run → PrintingLooksIn text format old new → PrintsLinear format 1 (length run) old new
-prints_linear format text run old new same looks = few_linear format (length text) (length run) old new (omega (arith, ap length same, stripped-shorter run)) looks.few
 
 -- Filtering in parts.
 

@@ -1,25 +1,11 @@
--- The text that a memo writes for a run.
-use Rattle.std.proofs.Common.{◌≡◌, ℕ, List, [], Some, IfSome, Result, OnOk, IfErr, ap, sym, subst, ◌∙◌}
+-- Filters whose memo has the same value.
+use Rattle.std.proofs.Common.{◌≡◌, ℕ, List, [], Some, IfSome, Result, OnOk, IfErr, subst}
 use Rattle.std.specs.Io.KnownBytes.{Appends}
-use Rattle.std.specs.List.{concat}
-use Rattle.rustc_demangle.specs.Filtered.{replacement_in}
 use Rattle.rustc_demangle.specs.Rewritten.{rewritten_after, rewritten_in}
-use Rattle.rustc_demangle.specs.Stripped.{stripped}
 use Rattle.std.specs.declared.option.Option.{Option}
 use Rattle.rustc_demangle.specs.ByteStream.{Unwritten, from_start, StepFiltered, StepFinished, BytesStopped}
 use Rattle.rustc_demangle.specs.declared.stream.fault.StreamFault.{StreamFault}
-use Rattle.rustc_demangle.specs.Symbols.{handed_in, IsSymbol}
-use Rattle.rustc_demangle.specs.declared.format.Format.{Format}
-use Rattle.rustc_demangle.proofs.RunLemmas.{replacement_in-symbol, replacement_in-no_symbol}
-
--- the printed symbol replaces its run
-pub symbol_replaced : (run symbol : List ℕ) (format : Format) → symbol ≡ stripped run → IsSymbol symbol → concat (handed_in symbol format) ≡ replacement_in format run
-symbol_replaced run symbol format same is =
-    ap (λ s. concat (handed_in s format)) same ∙ sym (replacement_in-symbol format run (subst IsSymbol same is))
-
--- a run that is not a symbol is unchanged
-pub run_kept : (run symbol : List ℕ) (format : Format) → symbol ≡ stripped run → (IsSymbol symbol → ⊥) → run ≡ replacement_in format run
-run_kept run symbol format same other = sym (replacement_in-no_symbol format run (λ is. other (subst IsSymbol (sym same) is)))
+use Rattle.demangle_value.specs.declared.format.Format.{Format}
 
 -- a step with a memo of the same value
 pub took_same : (m n : Format) (pending next : Unwritten) (left rest old new : Option (List ℕ)) → m ≡ n → StepFiltered (rewritten_after m) pending next left rest old new

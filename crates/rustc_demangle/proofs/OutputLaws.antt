@@ -4,20 +4,20 @@ use Rattle.std.specs.Option.{option_map_or}
 use Rattle.std.specs.List.{concat, prefix_len, take_while}
 use Rattle.std.proofs.lemmas.List.{take-append-drop}
 use Rattle.std.proofs.Math.Nat.{min-le_right}
-use Rattle.rustc_demangle.specs.Filtered.{is_run_byte, replacement_in}
-use Rattle.rustc_demangle.specs.Limits.{most_bytes, bytes_within}
+use Rattle.demangle_value.specs.Filtered.{is_run_byte, replacement_in}
+use Rattle.demangle_value.specs.Limits.{most_bytes, bytes_within}
 use Rattle.rustc_demangle.specs.Rewritten.{before_of, starts_candidate, replacement_after, rewritten_by, rewritten_in}
-use Rattle.rustc_demangle.specs.Stripped.{stripped}
-use Rattle.rustc_demangle.specs.Symbols.{form_in, limit_in, handed_in, pieces_in}
+use Rattle.demangle_value.specs.Stripped.{stripped}
+use Rattle.demangle_value.specs.Symbols.{form_in, limit_in, handed_in, pieces_in}
 use Rattle.rustc_demangle.specs.declared.byte_before.ByteBefore.{ByteBefore}
 use Rattle.rustc_demangle.specs.declared.byte_before.ByteBefore.TheVariants.{Outside, Alphanumeric, Mark}
-use Rattle.rustc_demangle.specs.declared.format.Format.{Format}
-use Rattle.rustc_demangle.specs.declared.format.SizeLimit.{SizeLimit}
-use Rattle.rustc_demangle.specs.declared.format.SizeLimit.TheVariants as size
+use Rattle.demangle_value.specs.declared.format.Format.{Format}
+use Rattle.demangle_value.specs.declared.format.SizeLimit.{SizeLimit}
+use Rattle.demangle_value.specs.declared.format.SizeLimit.TheVariants as size
 use Rattle.rustc_demangle.proofs.CandidateLemmas.{candidate_turn}
-use Rattle.rustc_demangle.proofs.Stripping.{stripped-shorter}
-use Rattle.rustc_demangle.proofs.SymbolLaws.{length_handed_in}
-use Rattle.rustc_demangle.proofs.SymbolLemmas.{symbol-pieces}
+use Rattle.demangle_value.proofs.Stripping.{stripped-shorter}
+use Rattle.demangle_value.proofs.SymbolLaws.{length_handed_in}
+use Rattle.demangle_value.proofs.SymbolLemmas.{symbol-pieces}
 
 cases : (b : Bool) → (b ≡ true) ⊎ (b ≡ false)
 cases true = inl refl

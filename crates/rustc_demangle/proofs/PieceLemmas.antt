@@ -8,14 +8,14 @@ use Rattle.demangle_sink.specs.declared.TextSink.{Ghosts}
 use Rattle.demangle_sink.specs.declared.SinkRefused.{SinkRefused}
 use Rattle.demangle_sink.specs.PutsPieces.{PutsPieces}
 use Rattle.demangle_sink.proofs.PutsPiecesLemmas.{puts_nothing, puts_then, puts_stop}
-use Rattle.rustc_demangle.specs.Stripped.{stripped}
-use Rattle.rustc_demangle.specs.Symbols.{IsSymbol, form_in, pieces_in, handed_in, unfolded}
-use Rattle.rustc_demangle.specs.declared.format.Format.{Format}
+use Rattle.demangle_value.specs.Stripped.{stripped}
+use Rattle.demangle_value.specs.Symbols.{IsSymbol, form_in, pieces_in, handed_in, unfolded}
+use Rattle.demangle_value.specs.declared.format.Format.{Format}
 use Rattle.rustc_demangle.specs.Lines.{onto_first}
-use Rattle.rustc_demangle.specs.Filtered.{by_runs, is_run_byte, starts_run, replacement_in, filtered_by, filtered_in, filtered_within}
+use Rattle.demangle_value.specs.Filtered.{by_runs, is_run_byte, starts_run, replacement_in, filtered_by, filtered_in, filtered_within}
 use Rattle.rustc_demangle.specs.TextPieces.{run_pieces, filtered_pieces_from, filtered_pieces_in, filtered_pieces}
-use Rattle.rustc_demangle.proofs.SymbolLemmas.{pieces-symbol, symbol-pieces}
-use Rattle.rustc_demangle.proofs.RunLemmas.{turn, first_of_run, run_some}
+use Rattle.demangle_value.proofs.SymbolLemmas.{pieces-symbol, symbol-pieces}
+use Rattle.demangle_value.proofs.RunLemmas.{turn, first_of_run, run_some}
 
 -- skipped bytes are omitted
 pieces_skip : (format : Format) (n : ℕ) (s : List ℕ) → filtered_pieces_from format n s ≡ filtered_pieces_in format (drop n s)

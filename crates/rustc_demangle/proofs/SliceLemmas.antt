@@ -14,18 +14,18 @@ use Rattle.demangle_sink.specs.Slice.{WrittenPart-nothing, WrittenPart-joined}
 use Rattle.demangle_sink.specs.Writes.{Writes}
 use Rattle.demangle_sink.proofs.PutsPiecesLemmas.{puts_put, puts_then, puts_stop}
 use Rattle.demangle_sink.proofs.Writing.{puts_writes}
-use Rattle.rustc_demangle.specs.Filtered.{is_run_byte, replacement_in, starts_run, StartsOutsideRun}
+use Rattle.demangle_value.specs.Filtered.{is_run_byte, replacement_in, starts_run, StartsOutsideRun}
 use Rattle.rustc_demangle.specs.Rewritten.{before_after, starts_candidate, replacement_after, rewritten_by, IsPlainLen}
 use Rattle.rustc_demangle.specs.TextPieces.{run_pieces}
 use Rattle.rustc_demangle.specs.PutsText.{PutsText}
-use Rattle.rustc_demangle.specs.declared.format.Format.{Format}
+use Rattle.demangle_value.specs.declared.format.Format.{Format}
 use Rattle.rustc_demangle.specs.declared.byte_before.ByteBefore.{ByteBefore}
 use Rattle.rustc_demangle.specs.declared.byte_before.ByteBefore.TheVariants.{Outside, Alphanumeric, Mark}
-use Rattle.rustc_demangle.proofs.RunStarts.{all_prefix, run_stops, far}
+use Rattle.demangle_value.proofs.RunStarts.{all_prefix, run_stops, far}
 use Rattle.rustc_demangle.proofs.CandidateLemmas.{candidate_prefix, rewritten_candidate, rewritten_split, rewritten_plain, rewritten_outside, HasNoCandidate, cuts_plain, plain_of}
 use Rattle.rustc_demangle.proofs.ByteStreamLemmas.{found_plain, found_candidate}
 use Rattle.rustc_demangle.proofs.PieceLemmas.{concat-run}
-use Rattle.rustc_demangle.proofs.SymbolLaws.{length-concat}
+use Rattle.demangle_value.proofs.SymbolLaws.{length-concat}
 
 -- by the contract of `put_bytes`
 pub slice_puts : (old : SliceSink) (s : List ℕ) (result : Result (Unit {0}) SinkRefused) (new : SliceSink)

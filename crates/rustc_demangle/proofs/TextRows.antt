@@ -4,12 +4,12 @@ use Rattle.std.specs.Prelude.{◌≡◌, ℕ, true, false, List, [], ◌∷◌, 
 use Rattle.std.specs.List.{concat}
 use Rattle.std.specs.Char.{encode_utf8}
 use Rattle.demangle_symbol.specs.Digits.{number}
-use Rattle.rustc_demangle.specs.Filtered.{by_runs, filtered}
+use Rattle.demangle_value.specs.Filtered.{by_runs, filtered}
 use Rattle.demangle_legacy.specs.Legacy.{inner_of, element_of, parts_within, parts_of, legacy_of}
 use Rattle.rustc_demangle.specs.Lines.{lines}
-use Rattle.rustc_demangle.specs.Stripped.{stripped, is_allowed}
-use Rattle.rustc_demangle.specs.Limits.{most_bytes}
-use Rattle.rustc_demangle.specs.Symbols.{handed}
+use Rattle.demangle_value.specs.Stripped.{stripped, is_allowed}
+use Rattle.demangle_value.specs.Limits.{most_bytes}
+use Rattle.demangle_value.specs.Symbols.{handed}
 use Rattle.demangle_legacy.specs.Unescaped.{escape_of_digits, escape_of, leading_unit, pieces_from, unescaped, printed_elements}
 use Rattle.demangle_v0_grammar.specs.V0.{v0_in, v0_of}
 

@@ -5,7 +5,7 @@ use Rattle.std.specs.declared.option.Option.{Option}
 use Rattle.std.specs.declared.io.ErrorKind.TheVariants.{OutOfMemory}
 use Rattle.std.specs.IoError.{error_kind}
 use Rattle.std.specs.Io.KnownBytes.{Appends, Keeps}
-use Rattle.rustc_demangle.specs.Filtered.{is_run_byte, starts_run, StartsOutsideRun}
+use Rattle.demangle_value.specs.Filtered.{is_run_byte, starts_run, StartsOutsideRun}
 use Rattle.rustc_demangle.specs.Rewritten.{before_after, starts_candidate}
 use Rattle.rustc_demangle.specs.declared.byte_before.ByteBefore.{ByteBefore}
 use Rattle.rustc_demangle.specs.declared.byte_before.ByteBefore.TheVariants.{Outside}

@@ -1,17 +1,18 @@
 -- The definitions that a reader of the public contracts has to believe, in reading order.
-pub mod Stripped
-pub mod Limits
-pub mod Shape
-pub mod Symbols
-pub mod PathEnds
-pub mod Hashes
 pub mod Lines
-pub mod Filtered
 pub mod TextPieces
 pub mod Rewritten
 pub mod LineStream
 pub mod ByteStream
 pub mod LinearLooks
+-- and of demangle_value
+pub use Rattle.demangle_value.specs.Stripped
+pub use Rattle.demangle_value.specs.Limits
+pub use Rattle.demangle_value.specs.Shape
+pub use Rattle.demangle_value.specs.Symbols
+pub use Rattle.demangle_value.specs.PathEnds
+pub use Rattle.demangle_value.specs.Hashes
+pub use Rattle.demangle_value.specs.Filtered
 -- and of demangle_sink
 pub use Rattle.demangle_sink.specs.Sink
 pub use Rattle.demangle_sink.specs.Cut
@@ -41,7 +42,6 @@ pub use Rattle.demangle_v0_grammar.specs.Spelling
 pub use Rattle.demangle_v0_grammar.specs.V0
 pub use Rattle.demangle_v0_grammar.specs.ValidationLooks
 -- Internal.
-pub mod Style
 pub mod PutsText
-pub mod Coalescing
-pub mod Tried
+pub mod HeldTexts
+pub mod Credit

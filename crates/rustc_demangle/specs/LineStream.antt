@@ -8,7 +8,7 @@ use Rattle.std.specs.declared.io.Error.{Error}
 use Rattle.std.specs.declared.io.ErrorKind.TheVariants.{InvalidData, OutOfMemory}
 use Rattle.std.specs.Io.KnownBytes.{Appends}
 use Rattle.rustc_demangle.specs.Lines.{lines}
-use Rattle.rustc_demangle.specs.Filtered.{filtered}
+use Rattle.demangle_value.specs.Filtered.{filtered}
 use Rattle.rustc_demangle.specs.declared.stream.fault.StreamFault.{StreamFault}
 use Rattle.rustc_demangle.specs.declared.stream.fault.StreamFault.TheVariants.{Read, NotUtf8, Write, Memory}
 

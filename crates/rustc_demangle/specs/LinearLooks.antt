@@ -3,8 +3,8 @@ use Rattle.std.specs.Prelude.{◌≡◌, ℕ, ◌+◌, ◌*◌, ◌≤◌, List,
 use Rattle.std.specs.declared.option.Option.{Option}
 use Rattle.demangle_symbol.specs.declared.cursor.looks.RunLooks.{RunLooks}
 use Rattle.rustc_demangle.specs.ByteStream.{Unwritten}
-use Rattle.rustc_demangle.specs.declared.format.Format.{Format}
-use Rattle.rustc_demangle.specs.declared.format.RereadLimit.TheVariants as reread
+use Rattle.demangle_value.specs.declared.format.Format.{Format}
+use Rattle.demangle_value.specs.declared.format.RereadLimit.TheVariants as reread
 use Rattle.rustc_demangle.specs.declared.stream.fault.StreamFault.{StreamFault}
 use Rattle.rustc_demangle.specs.declared.stream.fault.StreamFault.TheVariants.{Read, NotUtf8, Write, Memory}
 
@@ -28,10 +28,6 @@ LooksLinear format n old new = LooksPaid format n 0 old new
 -- the same for a step, whose pending bytes were `pending` and are `next`, and whose input was `left` and is `rest`
 abbrev pub StepPaid : Format → (pending next : Unwritten) → (left rest : Option (List ℕ)) → (old new : RunLooks) → Type 0
 StepPaid format pending next left rest old new = IfSome left (λ xs. IfSome rest (λ ys. LooksPaid format (length pending.bytes + length xs) (length next.bytes + length ys) old new))
-
--- With that limit, the looks of printing a symbol of n bytes so many times.
-abbrev pub PrintsLinear : Format → (times n : ℕ) → (old new : ℕ) → Type 0
-PrintsLinear format times n old new = format.reread ≡ reread.Linear → new ≤ old + times * (20 * (n + 1 + 384 * n))
 
 -- after an error of the reader, no more looks were made
 abbrev pub NoLooksUnread : StreamFault → (old new : RunLooks) → Type 0

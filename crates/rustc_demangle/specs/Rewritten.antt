@@ -2,9 +2,9 @@
 use Rattle.std.specs.Prelude.{◌≡◌, ◌⊎◌, ◌+◌, ℕ, zero, suc, length, Bool, true, false, ◌||◌, ◌&&◌, ◌==◌, if◌then◌else◌, List, [], ◌∷◌, ◌++◌, codes}
 use Rattle.std.specs.List.{prefix_len, take_while}
 use Rattle.std.specs.Char.{is_ascii_alphanumeric}
-use Rattle.rustc_demangle.specs.Filtered.{is_run_byte, starts_run, HasNoStart, IsRun, IsReplacement, replacement_in}
-use Rattle.rustc_demangle.specs.Symbols.{bounded_within, linear}
-use Rattle.rustc_demangle.specs.declared.format.Format.{Format}
+use Rattle.demangle_value.specs.Filtered.{is_run_byte, starts_run, HasNoStart, IsRun, IsReplacement, replacement_in}
+use Rattle.demangle_value.specs.Symbols.{bounded_within, linear}
+use Rattle.demangle_value.specs.declared.format.Format.{Format}
 use Rattle.rustc_demangle.specs.declared.byte_before.ByteBefore.{ByteBefore}
 use Rattle.rustc_demangle.specs.declared.byte_before.ByteBefore.TheVariants.{Outside, Alphanumeric, Mark}
 

@@ -1,11 +1,11 @@
 -- The pieces that a sink gets for a text with its symbols demangled.
 use Rattle.std.specs.Prelude.{ℕ, zero, Bool, List, [], ◌∷◌, ◌++◌}
 use Rattle.std.specs.Option.{option_map_or}
-use Rattle.rustc_demangle.specs.Stripped.{stripped}
-use Rattle.rustc_demangle.specs.Symbols.{pieces_in, form_in, handed_in, unfolded}
-use Rattle.rustc_demangle.specs.declared.format.Format.{Format}
+use Rattle.demangle_value.specs.Stripped.{stripped}
+use Rattle.demangle_value.specs.Symbols.{pieces_in, form_in, handed_in, unfolded}
+use Rattle.demangle_value.specs.declared.format.Format.{Format}
 use Rattle.rustc_demangle.specs.Lines.{onto_first}
-use Rattle.rustc_demangle.specs.Filtered.{by_runs}
+use Rattle.demangle_value.specs.Filtered.{by_runs}
 
 -- the pieces that replace a run: those of its symbol within the limit, or the run itself if it is not a symbol
 abbrev pub run_pieces : Format → List ℕ → List (List ℕ)

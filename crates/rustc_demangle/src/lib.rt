@@ -1,93 +1,26 @@
 //! Demangles Rust symbols.
 #![tactic(auto)]
 
-ghost use Rattle.std.specs.Prelude.{◌≡◌, ◌+◌, ◌-◌, ◌*◌, ◌≤◌, length, IfOk, OnOk, OnErr};
-ghost use Rattle.rustc_demangle.specs.Stripped.{stripped};
-ghost use Rattle.rustc_demangle.specs.Symbols.{IsSymbol};
-
 mod byte_before;
-mod coalescing;
-mod display;
-mod format;
 mod runs;
 pub mod sink;
 mod slice;
 mod stream;
-mod strip;
 mod text;
-mod value;
 
 pub use byte_before::plain_len;
 pub use demangle_symbol::cursor::{Looks, RunLooks};
 pub use demangle_symbol::form::Form;
-pub use format::{Format, RereadLimit, SizeLimit};
+pub use demangle_value::format::{Format, RereadLimit, SizeLimit};
+pub use demangle_value::value::Demangle;
+pub use demangle_value::value::printing::write_with_path_len;
+pub use demangle_value::{
+    TryDemangleError, demangle, demangle_counted, try_demangle, try_demangle_counted,
+};
 pub use runs::{run_len, run_start};
 pub use slice::{demangle_slice, demangle_slice_counted, demangle_slice_formatted};
 pub use stream::{
     BytesFilter, StreamFault, SymbolMemo, demangle_bytes, demangle_bytes_counted,
     demangle_bytes_formatted, demangle_bytes_limited, demangle_stream, demangle_stream_named,
 };
-use strip::without_thin_lto;
 pub use text::{demangle_text, demangle_text_formatted, demangle_text_limited};
-pub use value::Demangle;
-pub use value::printing::write_with_path_len;
-
-/// The error for a text that is not a Rust symbol.
-#[derive(Debug, Clone, Drop)]
-pub struct TryDemangleError {
-    _priv: (),
-}
-
-/// Parses a text as a Rust symbol, in the legacy scheme or in v0 (Rust RFC 2603), and counts its
-/// looks.
-///
-/// A suffix that ThinLTO appended is removed first. A text that is not a symbol is kept as it is.
-/// It does not allocate.
-pub fn demangle_counted<'a>(s: &'a str, looks: &mut Looks) -> Demangle<'a>
-    ensures text { result ≡ stripped s.now }
-    ensures grows { looks.old ≤ looks.new }
-    ensures most { looks.new ≤ looks.old + 64 * (length s.now + 1) }
-    ensures least { IsSymbol (stripped s.now) →
-        looks.old + (length (stripped s.now) - 4) ≤ looks.new }
-{
-    Demangle::read(without_thin_lto(s), false, looks)
-}
-
-/// Parses a text as a Rust symbol, in the legacy scheme or in v0 (Rust RFC 2603).
-///
-/// A suffix that ThinLTO appended is removed first. A text that is not a symbol is kept as it is.
-/// It does not allocate.
-pub fn demangle(s: &str) -> Demangle<'_>
-    ensures { result ≡ stripped s.now }
-{
-    demangle_counted(s, &mut Looks::new())
-}
-
-/// Parses a text as a Rust symbol, as `demangle` does. Fails if it is not a symbol.
-pub fn try_demangle(s: &str) -> Result<Demangle<'_>, TryDemangleError>
-    ensures symbol { OnOk result (IsSymbol (stripped s.now)) }
-    ensures text { IfOk result (λ d. d ≡ stripped s.now) }
-    ensures none { OnErr result (IsSymbol (stripped s.now) → ⊥) }
-{
-    try_demangle_counted(s, &mut Looks::new())
-}
-
-/// Parses a text as a Rust symbol, as `try_demangle` does, and counts its looks. Fails if it is not a
-/// symbol.
-pub fn try_demangle_counted<'a>(
-    s: &'a str,
-    looks: &mut Looks,
-) -> Result<Demangle<'a>, TryDemangleError>
-    ensures symbol { OnOk result (IsSymbol (stripped s.now)) }
-    ensures text { IfOk result (λ d. d ≡ stripped s.now) }
-    ensures none { OnErr result (IsSymbol (stripped s.now) → ⊥) }
-    ensures grows { looks.old ≤ looks.new }
-    ensures most { looks.new ≤ looks.old + 64 * (length s.now + 1) }
-{
-    let symbol = demangle_counted(s, looks);
-    if symbol.has_style() {
-        Ok(symbol)
-    } else {
-        Err(TryDemangleError { _priv: () })
-    }
-}

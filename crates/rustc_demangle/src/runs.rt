@@ -1,7 +1,7 @@
 //! Finds the runs of a text. A run is a candidate symbol.
 ghost use Rattle.std.specs.Prelude.{◌≡◌, ◌∷◌, ℕ, List, ◌+◌, ◌<◌, ◌≤◌, ◌-◌, ◌==◌, true, false, length, take, drop, IfSome, IfNone};
 ghost use Rattle.std.specs.List.{prefix_len, list_all};
-ghost use Rattle.rustc_demangle.specs.Filtered.{is_run_byte, starts_run};
+ghost use Rattle.demangle_value.specs.Filtered.{is_run_byte, starts_run};
 
 use memchr::memchr;
 use std::str;

@@ -3,17 +3,17 @@ ghost use Rattle.std.specs.Prelude.{◌≡◌, ◌<◌, length, true, false, IfS
 ghost use Rattle.std.specs.List.{list_all};
 ghost use Rattle.demangle_sink.specs.Sink.{IsWithin};
 ghost use Rattle.demangle_sink.specs.Slice.{overlay};
-ghost use Rattle.rustc_demangle.specs.Filtered.{is_run_byte};
+ghost use Rattle.demangle_value.specs.Filtered.{is_run_byte};
 ghost use Rattle.rustc_demangle.specs.LinearLooks.{LooksLinear};
 ghost use Rattle.rustc_demangle.specs.Rewritten.{replacement_after, rewritten_in, rewritten_within};
 ghost use Rattle.rustc_demangle.specs.PutsText.{PutsText};
 
 use crate::byte_before::ByteBefore;
-use crate::format::{Format, SizeLimit, unfolded_form};
 use crate::runs::{run_len, run_start, run_text};
 use crate::text::put_run;
 use demangle_sink::{SinkRefused, SliceSink, TextSink};
 use demangle_symbol::cursor::RunLooks;
+use demangle_value::format::{Format, SizeLimit, unfolded_form};
 
 impl ByteBefore {
     /// Writes the replacement of a candidate that follows this, and counts its looks. Fails if the

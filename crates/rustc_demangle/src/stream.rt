@@ -14,8 +14,6 @@ mod line_reader;
 mod line_writer;
 mod memo;
 mod pending_run;
-#[cfg(test)]
-mod tests;
 
 pub use bytes::{
     BytesFilter, demangle_bytes, demangle_bytes_counted, demangle_bytes_formatted,
@@ -84,8 +82,8 @@ fn copy_lines<R: BufRead, W: Write, A: Allocator>(
 ///
 /// Fails if the reader or the writer returns an error, if a line is not UTF-8, or if memory for the
 /// line can't be allocated.
-pub fn demangle_stream_named<R: BufRead, W: Write>(
-    alloc: Global,
+pub fn demangle_stream_named<R: BufRead, W: Write, A: Allocator>(
+    alloc: A,
     input: &mut R,
     output: &mut W,
     include_hash: bool,

@@ -3,16 +3,16 @@ ghost use Rattle.std.specs.Prelude.{◌≡◌, ◌<◌, length, true, false, OnO
 ghost use Rattle.std.specs.List.{list_all};
 ghost use Rattle.demangle_sink.specs.PutsPieces.{PutsPieces};
 ghost use Rattle.demangle_sink.specs.Writes.{Writes};
-ghost use Rattle.rustc_demangle.specs.Filtered.{filtered, is_run_byte};
+ghost use Rattle.demangle_value.specs.Filtered.{filtered, is_run_byte};
 ghost use Rattle.rustc_demangle.specs.LinearLooks.{LooksLinear};
 ghost use Rattle.rustc_demangle.specs.TextPieces.{run_pieces, filtered_pieces, filtered_pieces_in};
-ghost use Rattle.rustc_demangle.specs.Limits.{most_bytes};
+ghost use Rattle.demangle_value.specs.Limits.{most_bytes};
 
-use crate::format::{Format, MAX_SIZE};
 use crate::runs::{run_len, run_start};
-use crate::value::Demangle;
 use demangle_sink::{SinkRefused, TextSink, put_piece};
 use demangle_symbol::cursor::RunLooks;
+use demangle_value::format::{Format, MAX_SIZE};
+use demangle_value::value::Demangle;
 
 /// Writes the replacement of a run: the pieces of its symbol, or the run itself if it is not a
 /// symbol. Counts its looks. Fails if the sink fails.

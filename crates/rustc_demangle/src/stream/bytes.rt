@@ -2,16 +2,16 @@
 ghost use Rattle.std.specs.Prelude.{◌≡◌, ◌+◌, length, [], true, false, Ok, Some, IfSome, OnOk, IfErr};
 ghost use Rattle.std.specs.Io.KnownBytes.{Appends};
 ghost use Rattle.rustc_demangle.specs.Rewritten.{rewritten, rewritten_after, rewritten_in, rewritten_within};
-ghost use Rattle.rustc_demangle.specs.Symbols.{bounded_within, linear};
+ghost use Rattle.demangle_value.specs.Symbols.{bounded_within, linear};
 ghost use Rattle.rustc_demangle.specs.ByteStream.{Unwritten, unwritten, from_start, IsPartialCandidate, StepFiltered, StepFinished, StepFailed, BytesStopped};
 ghost use Rattle.rustc_demangle.specs.LinearLooks.{LooksLinear, NoLooksUnread, StepPaid};
 
 use crate::byte_before::ByteBefore;
-use crate::format::{Format, SizeLimit, unfolded_form};
 use crate::stream::fault::{StreamFault, read_fault};
 use crate::stream::memo::SymbolMemo;
 use crate::stream::pending_run::Pending;
 use demangle_symbol::cursor::RunLooks;
+use demangle_value::format::{Format, SizeLimit, unfolded_form};
 use std::alloc::{Allocator, Global};
 use std::io;
 use std::io::{BufRead, Write};
@@ -134,9 +134,9 @@ impl<A: Allocator> BytesFilter<A> {
 ///
 /// The input is read in the reader's chunks and not by lines. The bytes of a chunk between two runs
 /// are one write. Memory holds the unfinished run at the end of the bytes so far, and a
-/// `SymbolMemo`. So a repeated symbol of 20 to 2,048 bytes is one write. So is a v0 symbol or a
-/// legacy symbol with a hash, if it has as many bytes and prints up to 2,048. If it prints more, it
-/// is written in parts. Each piece of another symbol is one write.
+/// `SymbolMemo`. So a v0 symbol of 20 to 2,048 bytes is one write, and so is such a legacy symbol
+/// with a hash. If it prints more than 2,048 bytes, it is written in parts if `limit` is over
+/// 1,000,000, or if memory for it can't be allocated. Each piece of another symbol is one write.
 ///
 /// # Errors
 ///

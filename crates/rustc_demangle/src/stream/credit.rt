@@ -1,14 +1,15 @@
 //! Whether the runs of a text are printed before they are known to be symbols.
-
-#[cfg(test)]
-mod tests;
+ghost use Rattle.std.specs.Prelude.{◌≡◌, ◌-◌, ◌↔◌, IsTrue};
+ghost use Rattle.rustc_demangle.specs.Credit.{is_v0_run, owed_after};
 
 /// How many bytes of a run that was printed in vain cost one symbol.
 const BYTES_PER_SYMBOL: usize = 4;
 
 /// Returns whether a run, or a run with the `_` before it, starts as a v0 symbol.
 #[inline(always)]
-pub(super) fn starts_as_v0(run: &[u8]) -> bool {
+pub(super) fn starts_as_v0(run: &[u8]) -> bool
+    ensures { result ≡ is_v0_run run.now }
+{
     (run.len() > 2) && ((run[1] == b'R') | ((run[1] == b'_') & (run[2] == b'R')))
 }
 
@@ -24,20 +25,26 @@ pub(super) struct Credit {
 impl Credit {
     /// Returns the credit of a text of which nothing was read.
     #[inline(always)]
-    pub(super) fn new() -> Self {
+    pub(super) fn new() -> Self
+        ensures { result.owed ≡ 0 }
+    {
         Credit { owed: 0 }
     }
 
     /// Returns whether a run may be printed first.
     #[inline(always)]
-    pub(super) fn is_given(&self) -> bool {
+    pub(super) fn is_given(&self) -> bool
+        ensures { IsTrue result ↔ (self.now.owed ≡ 0) }
+    {
         self.owed == 0
     }
 
     /// Takes account of a run that was printed in vain. Only v0 runs count, because few bytes of
     /// others are printed before it is known.
     #[inline(always)]
-    pub(super) fn lose(&mut self, run: &str) {
+    pub(super) fn lose(&mut self, run: &str)
+        ensures { self.new.owed ≡ owed_after run.now self.old.owed }
+    {
         if starts_as_v0(run.as_bytes()) {
             self.owed = run.len() / BYTES_PER_SYMBOL + 1;
         }
@@ -45,7 +52,9 @@ impl Credit {
 
     /// Takes account of a symbol that was not printed first.
     #[inline(always)]
-    pub(super) fn gain(&mut self) {
+    pub(super) fn gain(&mut self)
+        ensures { self.new.owed ≡ self.old.owed - 1 }
+    {
         self.owed = self.owed.saturating_sub(1);
     }
 }

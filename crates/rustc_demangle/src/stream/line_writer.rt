@@ -2,17 +2,17 @@
 ghost use Rattle.std.specs.Prelude.{◌≡◌, ◌+◌, ◌*◌, ◌≤◌, length, true, OnOk};
 ghost use Rattle.std.specs.Io.KnownBytes.{Appends};
 ghost use Rattle.std.specs.List.{concat, list_all};
-ghost use Rattle.rustc_demangle.specs.Filtered.{filtered, is_run_byte, replacement_in};
-ghost use Rattle.rustc_demangle.specs.Stripped.{stripped};
-ghost use Rattle.rustc_demangle.specs.LinearLooks.{PrintsLinear};
-ghost use Rattle.rustc_demangle.specs.Symbols.{PrintingLooksIn, handed_in};
+ghost use Rattle.demangle_value.specs.Filtered.{filtered, is_run_byte, replacement_in};
+ghost use Rattle.demangle_value.specs.Stripped.{stripped};
+ghost use Rattle.demangle_value.specs.LinearPrinting.{PrintsLinear};
+ghost use Rattle.demangle_value.specs.Symbols.{PrintingLooksIn, handed_in};
 
-use crate::coalescing::write_at_once;
-use crate::format::Format;
 use crate::text::demangle_text;
-use crate::value::Demangle;
 use demangle_sink::WriteSink;
 use demangle_symbol::cursor::{Looks, RunLooks};
+use demangle_value::coalescing::write_at_once;
+use demangle_value::format::Format;
+use demangle_value::value::Demangle;
 use std::io;
 use std::io::Write;
 
@@ -65,27 +65,25 @@ fn write_text<W: Write>(text: &str, output: &mut W) -> io::Result<()>
     output.write_all(text.as_bytes())
 }
 
-impl Demangle<'_> {
-    /// Writes the replacement of a run that was read as this: the printed symbol, or the run itself
-    /// if it is not a symbol. Either is one call of the writer if it has up to 2,048 bytes. Counts
-    /// the looks of printing. Fails if the writer fails.
-    pub(super) fn write_read_at_once<W: Write>(
-        &self,
-        run: &str,
-        output: &mut W,
-        format: Format,
-        looks: &mut Looks,
-    ) -> io::Result<()>
-        requires { self.now ≡ stripped run.now }
-        ensures text { OnOk result (Appends (W.contents output.old) (W.contents output.new)
-            (replacement_in format run.now)) }
-        ensures prints { PrintsLinear format 1 (length run.now) looks.old looks.new }
-    {
-        if self.has_style() {
-            write_symbol_at_once(self, output, format, looks)
-        } else {
-            write_text(run, output)
-        }
+/// Writes the replacement of a run that was read as this: the printed symbol, or the run itself
+/// if it is not a symbol. Either is one call of the writer if it has up to 2,048 bytes. Counts
+/// the looks of printing. Fails if the writer fails.
+fn write_read_at_once<W: Write>(
+    symbol: &Demangle<'_>,
+    run: &str,
+    output: &mut W,
+    format: Format,
+    looks: &mut Looks,
+) -> io::Result<()>
+    requires { symbol.now ≡ stripped run.now }
+    ensures text { OnOk result (Appends (W.contents output.old) (W.contents output.new)
+        (replacement_in format run.now)) }
+    ensures prints { PrintsLinear format 1 (length run.now) looks.old looks.new }
+{
+    if symbol.has_style() {
+        write_symbol_at_once(symbol, output, format, looks)
+    } else {
+        write_text(run, output)
     }
 }
 
@@ -105,7 +103,7 @@ pub(super) fn write_run_at_once<W: Write>(
         looks.new.printing_looks }
 {
     let symbol = Demangle::read_run_counted(run, &mut looks.accepting_looks);
-    symbol.write_read_at_once(run, output, format, &mut looks.printing_looks)
+    write_read_at_once(&symbol, run, output, format, &mut looks.printing_looks)
 }
 
 /// Writes the replacement of a run: the printed symbol, with a write for each piece, or the run

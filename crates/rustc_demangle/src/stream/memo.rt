@@ -2,26 +2,27 @@
 ghost use Rattle.std.specs.Prelude.{◌≡◌, ◌+◌, ◌*◌, ◌<◌, ◌≤◌, [], true, length, IfNone, IfSome, IsTrue, OnOk};
 ghost use Rattle.std.specs.List.{concat, list_all};
 ghost use Rattle.std.specs.Io.KnownBytes.{Appends};
-ghost use Rattle.rustc_demangle.specs.Filtered.{is_run_byte, replacement_in};
-ghost use Rattle.rustc_demangle.specs.LinearLooks.{LooksLinear, PrintsLinear};
-ghost use Rattle.rustc_demangle.specs.Stripped.{stripped};
-ghost use Rattle.rustc_demangle.specs.Symbols.{PrintingLooksIn, bounded_within, handed_in};
-ghost use Rattle.rustc_demangle.specs.Tried.{IsRunRead};
+ghost use Rattle.demangle_value.specs.Filtered.{is_run_byte, replacement_in};
+ghost use Rattle.rustc_demangle.specs.LinearLooks.{LooksLinear};
+ghost use Rattle.demangle_value.specs.LinearPrinting.{PrintsLinear};
+ghost use Rattle.demangle_value.specs.Stripped.{stripped};
+ghost use Rattle.demangle_value.specs.Symbols.{PrintingLooksIn, bounded_within, handed_in};
+ghost use Rattle.demangle_value.specs.Tried.{IsRunRead};
 ghost use Rattle.text_memo.specs.Memo.{Remembers, IsSmall};
 
-use crate::format::{Format, SizeLimit, unfolded_form};
 use crate::stream::buffer_sink::BufferSink;
 use crate::stream::credit::{Credit, starts_as_v0};
 use crate::stream::line_writer::{write_run, write_run_at_once};
-use crate::value::Demangle;
-use crate::value::printing::{Tried, print_legacy_run, print_v0_run};
 use demangle_symbol::cursor::{Looks, RunLooks};
-use piece_buffer::PieceBuffer;
+use demangle_value::format::{Format, MAX_SIZE, SizeLimit, unfolded_form};
+use demangle_value::value::Demangle;
+use demangle_value::value::printing::{Tried, print_legacy_run, print_v0_run};
+use piece_buffer::GrowingBuffer;
 use std::alloc::Global;
 use std::io;
 use std::io::Write;
 use std::marker::Model;
-use text_memo::{Comparisons, MAX_KEY, Noted, TextMemo, hash_of};
+use text_memo::{Comparisons, MAX_KEY, MAX_TEXT, Noted, TextMemo, hash_of};
 
 /// A lookup that finds nothing adds one to the count, and one that finds a text subtracts this. So
 /// the count increases if fewer than one lookup in twenty finds a text.
@@ -80,16 +81,16 @@ impl Probe {
 #[derive(Drop)]
 struct Store {
     texts: TextMemo,
-    printed: PieceBuffer,
+    printed: GrowingBuffer,
     credit: Credit,
 }
 
 /// A memo of printed symbols, with which a filter does not parse a repeated symbol again.
 ///
-/// It belongs to one format, in which all its texts were printed. It allocates at most 4.5 MB of
-/// memory: 32 KB if no symbol repeats, and none if there are no symbols. A lookup compares at most
-/// two symbols. If memory can't be allocated, symbols are parsed as without a memo. The memo turns
-/// itself off for a while if few symbols repeat.
+/// It belongs to one format, in which all its texts were printed. It allocates at most 5.5 MB of
+/// memory, of which the last printed text uses at most 1,024,000 bytes. It allocates none if there
+/// are no symbols. A lookup compares at most two symbols. If memory can't be allocated, symbols are
+/// parsed as without a memo. The memo turns itself off for a while if few symbols repeat.
 #[derive(Drop)]
 pub struct SymbolMemo {
     alloc: Global,
@@ -99,8 +100,8 @@ pub struct SymbolMemo {
 }
 
 impl Model for SymbolMemo {
-    ghost use Rattle.rustc_demangle.specs.declared.format.Format.{Format};
-    ghost use Rattle.rustc_demangle.specs.Filtered.{replacement_in};
+    ghost use Rattle.demangle_value.specs.declared.format.Format.{Format};
+    ghost use Rattle.demangle_value.specs.Filtered.{replacement_in};
     ghost use Rattle.text_memo.specs.Memo.{Remembers, IsSmall};
 
     ghost Value = { Format };
@@ -111,11 +112,11 @@ impl Model for SymbolMemo {
         × IsSmall memo.store.texts };
 }
 
-/// Prints a symbol into an empty buffer, or returns `false` if the buffer has no room for it.
-/// Counts its looks.
+/// Prints a symbol into an empty buffer, or returns `false` if the buffer can't hold it. Counts its
+/// looks.
 fn print_to_buffer(
     symbol: &Demangle<'_>,
-    held: &mut PieceBuffer,
+    held: &mut GrowingBuffer,
     format: Format,
     looks: &mut Looks,
 ) -> bool
@@ -134,7 +135,7 @@ fn print_to_buffer(
 #[inline(always)]
 fn print_first<'a>(
     run: &'a str,
-    held: &mut PieceBuffer,
+    held: &mut GrowingBuffer,
     format: Format,
     looks: &mut RunLooks,
 ) -> Tried<'a>
@@ -168,8 +169,9 @@ enum Printed {
     Symbol,
     /// The run is not a symbol, and its text is the run.
     NoSymbol,
-    /// The text of the run is too long.
-    TooLong,
+    /// The buffer does not hold the text of the run. Memory could not be allocated, or the text may
+    /// be too long.
+    NotHeld,
 }
 
 /// Returns whether a run is looked up. It must start as a v0 symbol, or end with the hash of a
@@ -231,7 +233,8 @@ impl Store {
         Some(symbol)
     }
 
-    /// Prints into the buffer a run that was read. Counts the looks of printing.
+    /// Prints into the buffer a run that was read. Counts the looks of printing. If the path may have
+    /// over 1,000,000 bytes, it prints nothing, so that nothing is printed in vain.
     fn print_read(
         &mut self,
         symbol: &Demangle<'_>,
@@ -250,11 +253,14 @@ impl Store {
         if !symbol.has_style() {
             return Printed::NoSymbol;
         }
+        if format.for_text(run.len()).limit > MAX_SIZE {
+            return Printed::NotHeld;
+        }
         self.printed.clear();
         if print_to_buffer(symbol, &mut self.printed, format, looks) {
             Printed::Symbol
         } else {
-            Printed::TooLong
+            Printed::NotHeld
         }
     }
 
@@ -281,7 +287,7 @@ impl Store {
         }
     }
 
-    /// Prints a run as `print_run` does, and remembers its text, or that it is too long.
+    /// Prints a run as `print_run` does, and remembers its text, or that it is too long for that.
     #[inline(never)]
     fn print_new(&mut self, run: &str, hash: u64, format: Format, looks: &mut RunLooks) -> Printed
         requires run { list_all is_run_byte run.now ≡ true }
@@ -302,11 +308,50 @@ impl Store {
         let printed = self.print_run(run, format, looks);
         let key = run.as_bytes();
         match printed {
+            Printed::Symbol if self.printed.len() > MAX_TEXT => self.texts.note_too_long(hash),
             Printed::Symbol => self.texts.insert(key, self.printed.as_slice(), hash),
             Printed::NoSymbol => self.texts.insert(key, key, hash),
-            Printed::TooLong => self.texts.note_too_long(hash),
+            Printed::NotHeld => self.texts.note_too_long(hash),
         }
         printed
+    }
+
+    /// Prints a run that is not in the memo, as `print_run` does. Its text is remembered if the run
+    /// came before. `hash` is the run's, or `None` if the memo is off.
+    #[inline(always)]
+    fn print_not_in_memo(
+        &mut self,
+        run: &str,
+        hash: Option<u64>,
+        format: Format,
+        looks: &mut RunLooks,
+    ) -> Printed
+        requires run { list_all is_run_byte run.now ≡ true }
+        requires some { 1 < length run.now }
+        requires remembers { Remembers (replacement_in format) self.old.texts }
+        ensures symbol { result ≡ Printed.Symbol →
+            self.new.printed ≡ replacement_in format run.now }
+        ensures no_symbol { result ≡ Printed.NoSymbol →
+            run.now ≡ replacement_in format run.now }
+        ensures remembers { Remembers (replacement_in format) self.new.texts }
+        ensures small { IsSmall self.old.texts → IsSmall self.new.texts }
+        ensures grows { looks.old.accepting_looks ≤ looks.new.accepting_looks }
+        ensures most { looks.new.accepting_looks
+            ≤ looks.old.accepting_looks + 152 * (length run.now + 1) }
+        ensures prints { PrintsLinear format 2 (length run.now) looks.old.printing_looks
+            looks.new.printing_looks }
+    {
+        let Some(hash) = hash else {
+            return self.print_run(run, format, looks);
+        };
+        match self.texts.note(hash) {
+            Noted::New => self.print_run(run, format, looks),
+            Noted::Again => self.print_new(run, hash, format, looks),
+            Noted::TooLong => {
+                let symbol = Demangle::read_run_counted(run, &mut looks.accepting_looks);
+                self.print_read(&symbol, run, format, &mut looks.printing_looks)
+            }
+        }
     }
 }
 
@@ -330,7 +375,7 @@ impl SymbolMemo {
             format,
             store: Store {
                 texts: TextMemo::new(alloc),
-                printed: PieceBuffer::new(),
+                printed: GrowingBuffer::new(alloc),
                 credit: Credit::new(),
             },
             probe: Probe {
@@ -352,48 +397,21 @@ impl SymbolMemo {
         self.alloc
     }
 
-    /// Returns the number of bytes of memory that the memo has allocated, which is at most 4.5 MB.
+    /// Returns the number of bytes of memory that the memo has allocated, which is at most 5.5 MB.
     pub fn allocated(&self) -> usize
-        ensures { result ≤ 4_500_000 }
+        ensures { result ≤ 5_500_000 }
     {
-        self.store.texts.allocated()
+        self.store.texts.allocated() + self.store.printed.allocated()
     }
 
-    /// Writes the text of a run that is not remembered. Counts its looks: the bound of those that
-    /// decide whether it is a symbol is linear in its length. Fails if the writer fails.
-    #[inline(always)]
-    fn write_once<W: Write>(
-        &mut self,
-        run: &str,
-        output: &mut W,
-        looks: &mut RunLooks,
-    ) -> io::Result<()>
-        requires all { list_all is_run_byte run.now ≡ true }
-        requires some { 1 < length run.now }
-        ensures text { OnOk result (Appends (W.contents output.old) (W.contents output.new)
-            (replacement_in self.old run.now)) }
-        ensures same { self.new ≡ self.old }
-        ensures grows { looks.old.accepting_looks ≤ looks.new.accepting_looks }
-        ensures most { looks.new.accepting_looks
-            ≤ looks.old.accepting_looks + 152 * (length run.now + 1) }
-        ensures prints { PrintsLinear self.old 2 (length run.now) looks.old.printing_looks
-            looks.new.printing_looks }
-    {
-        match self.store.print_or_read(run, self.format, looks) {
-            Some(symbol) => {
-                symbol.write_read_at_once(run, output, self.format, &mut looks.printing_looks)
-            }
-            None => output.write_all(self.store.printed.as_slice()),
-        }
-    }
-
-    /// Writes the text of a run that is not in the memo, and counts its looks. The text is
-    /// remembered if the run came before. Fails if the writer fails.
+    /// Writes the text of a run that is not in the memo, by one call of the writer if the buffer holds
+    /// it. Counts its looks. The text is remembered if the run came before. `hash` is the run's, or
+    /// `None` if the memo is off. Fails if the writer fails.
     #[inline(always)]
     fn write_new<W: Write>(
         &mut self,
         run: &str,
-        hash: u64,
+        hash: Option<u64>,
         output: &mut W,
         looks: &mut RunLooks,
     ) -> io::Result<()>
@@ -407,15 +425,10 @@ impl SymbolMemo {
         ensures prints { PrintsLinear self.old 3 (length run.now) looks.old.printing_looks
             looks.new.printing_looks }
     {
-        match self.store.texts.note(hash) {
-            Noted::Again => {}
-            Noted::New => return self.write_once(run, output, looks),
-            Noted::TooLong => return write_run_at_once(run, output, self.format, looks),
-        }
-        match self.store.print_new(run, hash, self.format, looks) {
+        match self.store.print_not_in_memo(run, hash, self.format, looks) {
             Printed::Symbol => output.write_all(self.store.printed.as_slice()),
             Printed::NoSymbol => output.write_all(run.as_bytes()),
-            Printed::TooLong => write_run_at_once(run, output, self.format, looks),
+            Printed::NotHeld => write_run_at_once(run, output, self.format, looks),
         }
     }
 
@@ -441,7 +454,7 @@ impl SymbolMemo {
             return write_run(run, output, self.format, looks);
         }
         if !self.probe.is_on() {
-            return self.write_once(run, output, looks);
+            return self.write_new(run, None, output, looks);
         }
         let hash = hash_of(run.as_bytes());
         if let Some(text) = self.store.texts.get(run.as_bytes(), hash, comparisons) {
@@ -449,6 +462,6 @@ impl SymbolMemo {
             return output.write_all(text);
         }
         self.probe.miss();
-        self.write_new(run, hash, output, looks)
+        self.write_new(run, Some(hash), output, looks)
     }
 }

@@ -3,7 +3,7 @@
 ghost use Rattle.std.specs.Prelude.{◌≡◌, ◌∷◌, ◌++◌, ◌+◌, ◌-◌, ◌*◌, ◌<◌, ◌≤◌, ℕ, List, [], true, false, drop, length, IsTrue, IfOk, OnOk, IfErr};
 ghost use Rattle.std.specs.List.{list_all};
 ghost use Rattle.std.specs.Io.KnownBytes.{Appends};
-ghost use Rattle.rustc_demangle.specs.Filtered.{is_run_byte, starts_run};
+ghost use Rattle.demangle_value.specs.Filtered.{is_run_byte, starts_run};
 ghost use Rattle.rustc_demangle.specs.LinearLooks.{LooksLinear, LooksPaid};
 ghost use Rattle.rustc_demangle.specs.Rewritten.{before_after, starts_candidate, replacement_after, rewritten_after};
 ghost use Rattle.rustc_demangle.specs.ByteStream.{unwritten, SplitsNoCandidate, IsPartialRun, IsPartialCandidate, FilteredChunkPrefix, IsWriting, ChunkFailed};

@@ -1,8 +1,8 @@
 use Rattle.std.proofs.Common.{◌≡◌, ◌+◌, drop, get_or, inl, inr, ap, ◌∙◌, arith}
 use Rattle.std.proofs.lemmas.Bool.{or_parts, cases_lt}
-use Rattle.rustc_demangle.specs.Filtered.{starts_run}
+use Rattle.demangle_value.specs.Filtered.{starts_run}
 use Rattle.rustc_demangle.proofs.Groups.{group_at}
-use Rattle.rustc_demangle.proofs.Searches.{no_run_at}
+use Rattle.demangle_value.proofs.Searches.{no_run_at}
 use Rattle.rustc_demangle.proofs.runs.group_may_start_run.Goals as goal
 
 pub loop-k-preserved : goal.loop-k-preserved

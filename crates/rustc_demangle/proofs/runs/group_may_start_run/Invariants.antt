@@ -1,5 +1,5 @@
 use Rattle.std.proofs.Common.{◌≡◌, ℕ, ◌+◌, ◌<◌, ◌≤◌, false, drop}
-use Rattle.rustc_demangle.specs.Filtered.{starts_run}
+use Rattle.demangle_value.specs.Filtered.{starts_run}
 use Rattle.rustc_demangle.proofs.runs.group_may_start_run.Given as goal
 
 abbrev pub invariant-loop-k : goal.invariant-loop-k

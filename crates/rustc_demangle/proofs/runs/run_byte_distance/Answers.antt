@@ -1,7 +1,7 @@
 use Rattle.std.proofs.Common.{ℕ, ◌-◌, ◌+◌, ◌%◌, Bool, ◌||◌, eqb, sym, ap, ap₂, ◌∙◌, refl}
 use Rattle.std.specs.Prelude.{min, bit_or, bit_xor}
 use Rattle.std.proofs.lemmas.Bool.{agree_below_at}
-use Rattle.rustc_demangle.specs.Filtered.{is_run_byte}
+use Rattle.demangle_value.specs.Filtered.{is_run_byte}
 use Rattle.rustc_demangle.proofs.runs.run_byte_distance.Goals as goal
 
 abbrev is_mark : ℕ → Bool

@@ -3,7 +3,7 @@ use Rattle.std.proofs.lemmas.Bool.{cases_eq, cases_lt, ne_eqb}
 use Rattle.std.proofs.lemmas.Grind.{get_or-set_at}
 use Rattle.std.proofs.lemmas.List.{length-set, get_or-set_other}
 use Rattle.std.proofs.lemmas.List.Sums.{prefix_len_is, prefix_len-le-length}
-use Rattle.rustc_demangle.specs.Filtered.{is_run_byte}
+use Rattle.demangle_value.specs.Filtered.{is_run_byte}
 use Rattle.rustc_demangle.proofs.Words.{IsLowest, no_byte, lowest_byte}
 use Rattle.rustc_demangle.proofs.runs.run_bytes_of.Goals as goal
 use lib.Count.{count_trailing_zeros}

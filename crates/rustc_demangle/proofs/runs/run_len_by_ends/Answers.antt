@@ -1,5 +1,5 @@
 use Rattle.std.proofs.Common.{refl, ◌∙◌}
-use Rattle.rustc_demangle.specs.Filtered.{is_run_byte}
+use Rattle.demangle_value.specs.Filtered.{is_run_byte}
 use Rattle.rustc_demangle.proofs.Groups.{run_ends_early, run_ends_late}
 use Rattle.rustc_demangle.proofs.runs.run_len_by_ends.Goals as goal
 

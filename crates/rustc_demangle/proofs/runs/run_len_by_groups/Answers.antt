@@ -1,6 +1,6 @@
 use Rattle.std.proofs.Common.{◌-◌, length, drop, arith}
 use Rattle.std.proofs.lemmas.List.{length-take, length-drop}
-use Rattle.rustc_demangle.specs.Filtered.{is_run_byte}
+use Rattle.demangle_value.specs.Filtered.{is_run_byte}
 use Rattle.rustc_demangle.proofs.Groups.{group_is, group_fits, last_group, passes_up_to, run_ends}
 use Rattle.rustc_demangle.proofs.runs.run_len_by_groups.Goals as goal
 

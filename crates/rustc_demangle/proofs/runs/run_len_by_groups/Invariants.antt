@@ -1,5 +1,5 @@
 use Rattle.std.proofs.Common.{◌≡◌, ℕ, ◌-◌, ◌<◌, ◌≤◌, true, get_or, length}
-use Rattle.rustc_demangle.specs.Filtered.{is_run_byte}
+use Rattle.demangle_value.specs.Filtered.{is_run_byte}
 use Rattle.rustc_demangle.proofs.runs.run_len_by_groups.Given as goal
 
 abbrev pub invariant-loop-group : goal.invariant-loop-group

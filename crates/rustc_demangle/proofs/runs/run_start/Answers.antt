@@ -1,8 +1,8 @@
 use Rattle.std.proofs.Common.{◌≡◌, ℕ, List, ◌+◌, ◌-◌, ◌<◌, false, length, drop, take, sym, subst, ap, ◌∙◌, arith, take_all}
 use Rattle.std.proofs.lemmas.List.{length-drop}
 use Rattle.memchr.specs.Find.{Nowhere, Passes, is_byte}
-use Rattle.rustc_demangle.specs.Filtered.{starts_run}
-use Rattle.rustc_demangle.proofs.Searches.{no_run_up_to, no_run_after, no_run_on}
+use Rattle.demangle_value.specs.Filtered.{starts_run}
+use Rattle.demangle_value.proofs.Searches.{no_run_up_to, no_run_after, no_run_on}
 use Rattle.rustc_demangle.proofs.runs.run_start.Goals as goal
 
 -- the contents of a slice from a place on

@@ -1,5 +1,5 @@
 use Rattle.std.proofs.Common.{◌≡◌, ℕ, ◌-◌, ◌<◌, ◌≤◌, false, drop, length}
-use Rattle.rustc_demangle.specs.Filtered.{starts_run}
+use Rattle.demangle_value.specs.Filtered.{starts_run}
 use Rattle.rustc_demangle.proofs.runs.skip_groups.Given as goal
 
 abbrev pub invariant-loop-at : goal.invariant-loop-at

@@ -3,10 +3,10 @@ use Rattle.std.proofs.lemmas.List.{length-take}
 use Rattle.rustc_demangle.proofs.LinearLooks.{paid_step, paid_lost, paid_all}
 use Rattle.std.proofs.lemmas.List.Sums.{prefix_len-le-length}
 use Rattle.demangle_sink.specs.contracts.slice_sink.SliceSinkTextSink.TheImpl.{ghosts}
-use Rattle.rustc_demangle.specs.Filtered.{is_run_byte}
+use Rattle.demangle_value.specs.Filtered.{is_run_byte}
 use Rattle.rustc_demangle.specs.Rewritten.{replacement_after}
 use Rattle.rustc_demangle.specs.declared.byte_before.ByteBefore.TheVariants.{Outside}
-use Rattle.rustc_demangle.proofs.RunStarts.{all_cut}
+use Rattle.demangle_value.proofs.RunStarts.{all_cut}
 use Rattle.rustc_demangle.proofs.ByteStreamLemmas.{found_some}
 use Rattle.rustc_demangle.proofs.SliceLemmas.{slice_puts, slice_text, slice_fits, rewriting_step, rewriting_kept, rewriting_run, rewriting_end}
 use Rattle.rustc_demangle.proofs.slice.put_slice.Goals as goal

@@ -1,6 +1,6 @@
 use Rattle.std.proofs.Common.{subst}
 use Rattle.std.proofs.lemmas.Result.{on_ok_weaker}
-use Rattle.rustc_demangle.specs.Limits.{most_bytes}
+use Rattle.demangle_value.specs.Limits.{most_bytes}
 use Rattle.rustc_demangle.proofs.PieceLemmas.{pieces_join}
 use Rattle.rustc_demangle.proofs.text.demangle_text.Goals as goal
 

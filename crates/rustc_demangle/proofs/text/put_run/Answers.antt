@@ -1,8 +1,9 @@
 use Rattle.std.proofs.Common.{arith, refl, ap, sym, subst, ◌∙◌}
 use Rattle.demangle_sink.specs.PutsPieces.{PutsPieces}
-use Rattle.rustc_demangle.specs.Symbols.{handed_in, IsSymbol}
+use Rattle.demangle_value.specs.Symbols.{handed_in, IsSymbol}
 use Rattle.rustc_demangle.proofs.PieceLemmas.{run_pieces-symbol, run_pieces-no_symbol}
-use Rattle.rustc_demangle.proofs.LinearLooks.{prints_linear, prints_once, run_linear}
+use Rattle.rustc_demangle.proofs.LinearLooks.{prints_once, run_linear}
+use Rattle.demangle_value.proofs.LinearPrinting.{prints_linear}
 use Rattle.rustc_demangle.proofs.text.put_run.Goals as goal
 
 pub returns-then-has_style-clause-pieces : goal.returns-then-has_style-clause-pieces

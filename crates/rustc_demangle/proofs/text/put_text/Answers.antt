@@ -1,6 +1,6 @@
 use Rattle.std.proofs.Common.{rules, refl}
-use Rattle.rustc_demangle.proofs.RunStarts.{all_cut}
-use Rattle.rustc_demangle.proofs.RunLemmas.{cut_at}
+use Rattle.demangle_value.proofs.RunStarts.{all_cut}
+use Rattle.demangle_value.proofs.RunLemmas.{cut_at}
 use Rattle.rustc_demangle.proofs.PieceLemmas.{feeding_init, feeding_step, feeding_kept, feeding_run, feeding_end}
 use Rattle.rustc_demangle.proofs.text.put_text.Goals as goal
 

@@ -1,6 +1,6 @@
 use Rattle.std.proofs.Common.{◌<◌, List, ℕ, length, subst}
 use Rattle.demangle_sink.specs.contracts.slice_sink.SliceSinkTextSink.TheImpl.{ghosts}
-use Rattle.rustc_demangle.specs.Filtered.{replacement_in}
+use Rattle.demangle_value.specs.Filtered.{replacement_in}
 use Rattle.rustc_demangle.specs.LinearLooks.{LooksLinear}
 use Rattle.rustc_demangle.specs.PutsText.{PutsText}
 use Rattle.rustc_demangle.proofs.SliceLemmas.{slice_puts, candidate_puts, kept_puts, pieces_put}

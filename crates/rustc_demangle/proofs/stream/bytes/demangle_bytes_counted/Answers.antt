@@ -3,7 +3,7 @@ use Rattle.std.proofs.lemmas.Result.{err_from_is_err_and}
 use Rattle.rustc_demangle.proofs.ByteStreamLemmas.{passing_init, passing_known, passing_step, passing_end, passing_err, passing_full}
 use Rattle.rustc_demangle.specs.ByteStream.{from_start}
 use Rattle.rustc_demangle.specs.LinearLooks.{LooksLinear, StepPaid}
-use Rattle.rustc_demangle.specs.declared.format.Format.{Format}
+use Rattle.demangle_value.specs.declared.format.Format.{Format}
 use Rattle.rustc_demangle.proofs.LinearLooks.{paid_first, paid_join, paid_last, paid_stop}
 use Rattle.rustc_demangle.proofs.MemoLemmas.{took_same, ended_same}
 use Rattle.rustc_demangle.proofs.stream.bytes.demangle_bytes_counted.Goals.{else-loop-test, then-loop-test+in_ok-step_counted+else-not-branch+else-counter-lt18446744073709551615}

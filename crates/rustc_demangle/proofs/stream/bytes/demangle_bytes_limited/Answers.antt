@@ -1,6 +1,6 @@
 use Rattle.std.proofs.Common.{◌∙◌, ap}
-use Rattle.rustc_demangle.specs.Symbols.{bounded}
-use Rattle.rustc_demangle.specs.declared.format.SizeLimit.TheVariants as size
+use Rattle.demangle_value.specs.Symbols.{bounded}
+use Rattle.demangle_value.specs.declared.format.SizeLimit.TheVariants as size
 use Rattle.rustc_demangle.proofs.MemoLemmas.{whole_same, stopped_same}
 use Rattle.rustc_demangle.proofs.stream.bytes.demangle_bytes_limited.Goals as goal
 

@@ -2,7 +2,7 @@ use Rattle.std.proofs.Common.{◌≡◌, ◌≢◌, ◌-◌, All, length, take, 
 use Rattle.std.proofs.lemmas.Bool.Decides.{nat_tests}
 use Rattle.std.proofs.lemmas.List.Elements.{All-take}
 use Rattle.demangle_sink.proofs.Fillings.{take_through-met, take_through-none}
-use Rattle.rustc_demangle.proofs.Searches.{none_met}
+use Rattle.demangle_value.proofs.Searches.{none_met}
 use Rattle.rustc_demangle.proofs.stream.line_reader.len_through_feed.Goals as goal
 
 pub returns-in-Some-clause-through : goal.returns-in-Some-clause-through

@@ -2,9 +2,9 @@ use Rattle.std.proofs.Common.{refl, sym, subst, ap, ◌∙◌}
 use Rattle.std.proofs.lemmas.Result.{on_ok_weaker}
 use Rattle.std.specs.Io.KnownBytes.{Appends}
 use Rattle.std.specs.List.{concat}
-use Rattle.rustc_demangle.specs.Symbols.{handed_in, IsSymbol}
-use Rattle.rustc_demangle.proofs.RunLemmas.{replacement_in-symbol, replacement_in-no_symbol}
-use Rattle.rustc_demangle.proofs.LinearLooks.{prints_linear}
+use Rattle.demangle_value.specs.Symbols.{handed_in, IsSymbol}
+use Rattle.demangle_value.proofs.RunLemmas.{replacement_in-symbol, replacement_in-no_symbol}
+use Rattle.demangle_value.proofs.LinearPrinting.{prints_linear}
 use Rattle.rustc_demangle.proofs.stream.line_writer.write_run.Goals as goal
 
 pub returns-then-has_style-clause-text : goal.returns-then-has_style-clause-text

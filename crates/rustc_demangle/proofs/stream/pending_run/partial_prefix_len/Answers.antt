@@ -1,4 +1,4 @@
-use Rattle.rustc_demangle.proofs.RunStarts.{uncut_one, uncut_two, uncut_none}
+use Rattle.demangle_value.proofs.RunStarts.{uncut_one, uncut_two, uncut_none}
 use Rattle.rustc_demangle.proofs.stream.pending_run.partial_prefix_len.Goals as goal
 
 pub returns-then-ends_with-clause-uncut : goal.returns-then-ends_with-clause-uncut

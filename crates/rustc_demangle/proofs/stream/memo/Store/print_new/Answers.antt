@@ -1,12 +1,16 @@
 use Rattle.std.proofs.Common.{◌≡◌, sym, ap, subst, ◌∙◌}
-use Rattle.rustc_demangle.specs.Filtered.{replacement_in}
+use Rattle.demangle_value.specs.Filtered.{replacement_in}
 use Rattle.rustc_demangle.proofs.stream.memo.Store.print_new.Goals as goal
 
 pub returns-in-Symbol-clause-remembers : goal.returns-in-Symbol-clause-remembers
 returns-in-Symbol-clause-remembers c =
+    c.note_too_long.ensures.remembers (replacement_in c.args.format) (rw c.print_run-printed.ensures.texts c.requires.remembers)
+
+pub returns-in-Symbol-2-clause-remembers : goal.returns-in-Symbol-2-clause-remembers
+returns-in-Symbol-2-clause-remembers c =
     let stands = replacement_in c.args.format in
     c.insert.ensures.remembers stands (rw c.print_run-printed.ensures.texts c.requires.remembers)
-    (c.as_slice.ensures ∙ c.print_run-printed.ensures.symbol c.in-Symbol.is ∙ ap stands (sym c.as_bytes-key.ensures.value))
+    (c.as_slice.ensures ∙ c.print_run-printed.ensures.symbol c.in-Symbol-2.is ∙ ap stands (sym c.as_bytes-key.ensures.value))
 
 pub returns-in-NoSymbol-clause-remembers : goal.returns-in-NoSymbol-clause-remembers
 returns-in-NoSymbol-clause-remembers c =
@@ -14,6 +18,6 @@ returns-in-NoSymbol-clause-remembers c =
     c.insert-in-NoSymbol.ensures.remembers stands (rw c.print_run-printed.ensures.texts c.requires.remembers)
     (subst (λ t. t ≡ stands t) (sym c.as_bytes-key.ensures.value) (c.print_run-printed.ensures.no_symbol c.in-NoSymbol.is))
 
-pub returns-in-TooLong-clause-remembers : goal.returns-in-TooLong-clause-remembers
-returns-in-TooLong-clause-remembers c =
-    c.note_too_long.ensures.remembers (replacement_in c.args.format) (rw c.print_run-printed.ensures.texts c.requires.remembers)
+pub returns-in-NotHeld-clause-remembers : goal.returns-in-NotHeld-clause-remembers
+returns-in-NotHeld-clause-remembers c =
+    c.note_too_long-in-NotHeld.ensures.remembers (replacement_in c.args.format) (rw c.print_run-printed.ensures.texts c.requires.remembers)

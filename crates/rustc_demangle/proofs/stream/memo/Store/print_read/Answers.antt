@@ -1,6 +1,6 @@
 use Rattle.std.proofs.Common.{◌∙◌}
-use Rattle.rustc_demangle.proofs.MemoLemmas.{symbol_replaced, run_kept}
-use Rattle.rustc_demangle.proofs.LinearLooks.{prints_linear}
+use Rattle.demangle_value.proofs.RunLemmas.{symbol_replaced, run_kept}
+use Rattle.demangle_value.proofs.LinearPrinting.{prints_linear}
 use Rattle.rustc_demangle.proofs.stream.memo.Store.print_read.Goals as goal
 
 pub returns-then-not-has_style-clause-no_symbol : goal.returns-then-not-has_style-clause-no_symbol

@@ -1,4 +1,4 @@
-use Rattle.rustc_demangle.specs.Filtered.{replacement_in}
+use Rattle.demangle_value.specs.Filtered.{replacement_in}
 use Rattle.rustc_demangle.proofs.stream.memo.SymbolMemo.with_format.Goals as goal
 
 pub invariant_of-result : goal.invariant_of-result

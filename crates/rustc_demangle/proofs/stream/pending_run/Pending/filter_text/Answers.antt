@@ -2,9 +2,9 @@ use Rattle.std.proofs.Common.{refl, sym, ap, subst, ◌∙◌, arith, take, ◌-
 use Rattle.std.specs.List.{list_all}
 use Rattle.std.proofs.lemmas.List.{length-take}
 use Rattle.std.proofs.lemmas.List.Sums.{prefix_len-le-length}
-use Rattle.rustc_demangle.specs.Filtered.{is_run_byte}
+use Rattle.demangle_value.specs.Filtered.{is_run_byte}
 use Rattle.rustc_demangle.specs.Rewritten.{replacement_after}
-use Rattle.rustc_demangle.proofs.RunStarts.{all_prefix, far}
+use Rattle.demangle_value.proofs.RunStarts.{all_prefix, far}
 use Rattle.rustc_demangle.proofs.ByteStreamLemmas.{text_kept, text_run, found_open, found_beginning, found_some}
 use Rattle.rustc_demangle.proofs.stream.pending_run.Pending.filter_text.Goals as goal
 

@@ -1,0 +1,12 @@
+pub mod CoalescingLemmas
+pub mod RunStarts
+pub mod PathEndLaws
+pub mod PrintingLaws
+pub mod Searches
+pub mod RunLemmas
+pub mod Stripping
+pub mod SuffixLemmas
+pub mod SymbolLaws
+pub mod SymbolLemmas
+pub mod AllReferences
+pub mod LinearPrinting

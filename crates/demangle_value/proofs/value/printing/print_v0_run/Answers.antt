@@ -1,0 +1,144 @@
+use Rattle.std.specs.Prelude.{IsAscii}
+use Rattle.std.specs.List.{concat}
+use Rattle.std.proofs.Common.{◌≡◌, ◌≤◌, ℕ, ◌+◌, ◌*◌, Bool, true, List, [], ◌∷◌, ◌++◌, Result, Ok, Err, is_ok, OnOk, Some, length, arith, refl, sym, subst, ap, ◌∙◌, inr, rules}
+use Rattle.std.proofs.lemmas.Bool.{false≢true}
+use Rattle.demangle_legacy.specs.Legacy.{elements_of}
+use Rattle.demangle_value.specs.Shape.{is_all, limited, marked_unless, path_texts, texts_within}
+use Rattle.demangle_v0_grammar.specs.V0.{v0_of}
+use Rattle.demangle_v0_grammar.proofs.V0Reading.{read_is_v0}
+use Rattle.demangle_sink.specs.Cut.{cut, size}
+use Rattle.demangle_sink.specs.declared.SinkRefused.{SinkRefused}
+use Rattle.demangle_sink.specs.Limit.{PrintsUpTo, allowing, unused}
+use Rattle.demangle_sink.specs.declared.limit.Reread.{Reread}
+use Rattle.demangle_sink.proofs.PutsPiecesLemmas.{puts_then, puts_text}
+use Rattle.demangle_sink.proofs.PrintsLemmas.{cut-within, cut_all}
+use Rattle.demangle_value.specs.Filtered.{replacement_in}
+use Rattle.demangle_value.specs.Limits.{text_format}
+use Rattle.demangle_value.specs.Stripped.{is_allowed, stripped}
+use Rattle.demangle_value.specs.Symbols.{IsSymbol, form_in, limit_in}
+use Rattle.demangle_value.specs.declared.format.Format.{Format}
+use Rattle.demangle_value.specs.declared.format.TextFormat.{TextFormat}
+use Rattle.demangle_value.proofs.RunStarts.{all_ascii}
+use Rattle.demangle_value.proofs.RunLemmas.{symbol_replaced}
+use Rattle.demangle_value.proofs.PrintingLaws.{handed-some_of}
+use Rattle.demangle_value.proofs.Stripping.{IsAscii-stripped, stripped-shorter}
+use Rattle.demangle_value.proofs.SymbolLemmas.{pieces-v0, suffix-shorter}
+use Rattle.demangle_value.proofs.AllReferences.{up_to, up_to_all}
+use Rattle.demangle_value.proofs.LinearPrinting.{few_linear}
+use Rattle.demangle_value.specs.LinearPrinting.{PrintsLinear}
+use Rattle.demangle_value.proofs.value.printing.print_v0_run.Goals as goal
+
+-- pieces within the lower limit are cut at neither
+same_cut : (xs : List (List ℕ)) (most limit : ℕ) → size xs ≤ most → most ≤ limit → cut xs most ≡ cut xs limit
+same_cut xs most limit within lower = cut-within xs most within ∙ sym (cut-within xs limit (omega (arith, within, lower)))
+
+-- the text that a v0 symbol prints replaces its run
+v0_replaced : (run text inner suffix : List ℕ) (format : Format) → text ≡ stripped run → v0_of text ≡ Some (inner, suffix) → is_allowed suffix ≡ true
+    → concat (cut (path_texts inner (form_in format text)) (limit_in format text) ++ suffix ∷ []) ≡ replacement_in format run
+v0_replaced run text inner suffix format same read allowed =
+    let whole = handed-some_of text format (path_texts inner (form_in format text), suffix) (pieces-v0 (form_in format text) text inner suffix read allowed) in
+    let is : IsSymbol text = inr (inner, suffix, read_is_v0 text inner suffix read, allowed) in
+    sym (ap concat whole) ∙ symbol_replaced run text format same is
+
+pub demangle_printed-requires-clause-ascii : goal.demangle_printed-requires-clause-ascii
+demangle_printed-requires-clause-ascii g c = subst IsAscii (sym c.without_thin_lto-text.ensures) (IsAscii-stripped c.args.run.now (all_ascii c.args.run.now c.requires.run))
+
+pub demangle-requires : goal.demangle-requires
+demangle-requires g c = λ _. subst IsAscii (sym c.without_thin_lto-text.ensures) (IsAscii-stripped c.args.run.now (all_ascii c.args.run.now c.requires.run))
+
+when_ok : {P : Type 0} (r : Result (Unit {0}) SinkRefused) → is_ok r ≡ true → OnOk r P → P
+when_ok (Ok u) e p = p
+when_ok (Err f) e p = absurd (false≢true e)
+
+pub returns-then-is_ok-clause-took : goal.returns-then-is_ok-clause-took
+returns-then-is_ok-clause-took g c = λ _.
+    let laws = g.met.S.TextSink in
+    let printed = c.demangle_printed.new.out in
+    let inner = c.in-Symbol.symbol in
+    let suffix = c.in-Symbol.suffix.now in
+    let put = c.put_piece.result in
+    let form = limited c.for_text-limits.result in
+    let texts = texts_within inner form in
+    let known = c.in-Symbol.ensures.known.1 in
+    let out = allowing known.0 c.with_reread-limited.result in
+    let most = c.text_limit-limit.result + known.0 in
+    let left : out.remaining ≡ most = omega (arith, c.with_reread-limited.ensures.left) in
+    let up = up_to g.S.TextSink out printed inner form (Ok tt) c.with_reread-limited.ensures.reread known.2 in
+    let all : is_all inner form ≡ true = up_to_all g.S.TextSink out printed texts (is_all inner form) up in
+    let prints = subst (λ (b : Bool). PrintsUpTo g.S.TextSink out texts b (Ok tt) printed) all up in
+    let both =
+    puts_then g.S.TextSink c.args.out.now _ c.put_piece.new.out _ (suffix ∷ []) (Ok tt) put
+    (cut_all g.S.TextSink out printed _ _ _ texts true (Ok tt) c.with_reread-limited.ensures.text left prints (prints.open_ refl) (search rules))
+    refl c.put_piece.ensures in
+    let took = puts_text g.S.TextSink c.args.out.now c.put_piece.new.out _ put laws.took_nothing laws.took_joined both in
+    let within : size texts ≤ most = omega (arith, prints.within refl, left) in
+    let whole_texts : texts ≡ path_texts inner form = ap (λ (b : Bool). marked_unless b texts) (sym all) in
+    let cut_so =
+    same_cut texts most c.for_text-limits.result.limit within (omega (arith, known.1, c.text_withheld.ensures, c.text_limit-limit.ensures))
+    ∙ (ap (λ (xs : List (List ℕ)). cut xs c.for_text-limits.result.limit) whole_texts
+    ∙ ap (λ (f : TextFormat). cut (path_texts inner (limited f)) f.limit) c.for_text-limits.ensures) in
+    let allowed = sym c.is_allowed-allowed.ensures.allowed ∙ c.if-allowed.true in
+    let whole = v0_replaced c.args.run.now c.without_thin_lto-text.result.now inner suffix c.args.format c.without_thin_lto-text.ensures c.in-Symbol.ensures.known.0 allowed in
+    let text = ap (λ (pieces : List (List ℕ)). concat (pieces ++ suffix ∷ [])) cut_so ∙ whole in
+    subst (λ t. g.S.TextSink.took c.args.out.now t c.put_piece.new.out) text (when_ok put (sym c.is_ok.ensures.value ∙ c.if-is_ok.true) took)
+
+pub returns-then-is_ok-clause-most : goal.returns-then-is_ok-clause-most
+returns-then-is_ok-clause-most g c =
+    omega (arith, c.in-Symbol.ensures.most, c.in-Symbol.ensures.inner.1, c.is_allowed-allowed.ensures.most, ap length c.without_thin_lto-text.ensures, stripped-shorter c.args.run.now)
+
+pub returns-else-allowed-clause-most : goal.returns-else-allowed-clause-most
+returns-else-allowed-clause-most g c =
+    omega (arith, c.in-Symbol.ensures.most, c.in-Symbol.ensures.inner.1, c.is_allowed-allowed.ensures.most, ap length c.without_thin_lto-text.ensures, stripped-shorter c.args.run.now)
+
+pub returns-in-Part-clause-most : goal.returns-in-Part-clause-most
+returns-in-Part-clause-most g c =
+    omega (arith, c.in-Part.ensures.most, c.in-Part.ensures.inner.1, c.is_allowed-allowed-in-Part.ensures.most, ap length c.without_thin_lto-text.ensures, stripped-shorter c.args.run.now)
+
+pub returns-in-Ok-clause-most : goal.returns-in-Ok-clause-most
+returns-in-Ok-clause-most g c =
+    let text = c.without_thin_lto-text.result.now in
+    let below = suffix-shorter text (elements_of c.in-Ok.symbol) c.in-Ok.suffix.now c.in-Ok.ensures.ok in
+    omega (arith, c.in-NoSymbol.ensures.most, c.demangle.ensures.most, c.is_allowed-allowed-in-Ok.ensures.most, below, ap length c.without_thin_lto-text.ensures, stripped-shorter c.args.run.now)
+
+pub returns-in-Err-clause-most : goal.returns-in-Err-clause-most
+returns-in-Err-clause-most g c =
+    omega (arith, c.in-NoSymbol.ensures.most, c.demangle.ensures.most, ap length c.without_thin_lto-text.ensures, stripped-shorter c.args.run.now)
+
+pub returns-in-Unknown-clause-most : goal.returns-in-Unknown-clause-most
+returns-in-Unknown-clause-most g c =
+    omega (arith, c.in-Unknown.ensures.most, ap length c.without_thin_lto-text.ensures, stripped-shorter c.args.run.now)
+
+pub returns-in-Unknown-clause-early : goal.returns-in-Unknown-clause-early
+returns-in-Unknown-clause-early g c = λ _.
+    omega (arith, c.in-Unknown.ensures.early refl, ap length c.without_thin_lto-text.ensures, stripped-shorter c.args.run.now)
+
+-- the looks of printing a text, whose limit is that of the adapter
+few_of : (format : Format) (run text : List ℕ) (limits : TextFormat) (allowed : Reread) (old new : ℕ) → text ≡ stripped run → limits ≡ text_format format (length text) → allowed ≡ unused limits.reread
+    → ((k : ℕ) → allowed.most ≡ Some k → new ≤ old + 20 * (length text + 1 + k)) → PrintsLinear format 1 (length run) old new
+few_of format run text limits allowed old new stripped_so so same few =
+    few_linear format (length text) (length run) old new (omega (arith, ap length stripped_so, stripped-shorter run))
+    (λ k e. few k (ap (λ (r : Reread). r.most) same ∙ (ap (λ (f : TextFormat). f.reread) so ∙ e)))
+
+pub returns-then-is_ok-clause-prints : goal.returns-then-is_ok-clause-prints
+returns-then-is_ok-clause-prints g c =
+    few_of c.args.format c.args.run.now c.without_thin_lto-text.result.now c.for_text-limits.result _ _ _ c.without_thin_lto-text.ensures c.for_text-limits.ensures c.with_reread-limited.ensures.reread c.in-Symbol.ensures.few
+
+pub returns-else-allowed-clause-prints : goal.returns-else-allowed-clause-prints
+returns-else-allowed-clause-prints g c =
+    few_of c.args.format c.args.run.now c.without_thin_lto-text.result.now c.for_text-limits.result _ _ _ c.without_thin_lto-text.ensures c.for_text-limits.ensures c.with_reread-limited.ensures.reread c.in-Symbol.ensures.few
+
+pub returns-in-Part-clause-prints : goal.returns-in-Part-clause-prints
+returns-in-Part-clause-prints g c =
+    few_of c.args.format c.args.run.now c.without_thin_lto-text.result.now c.for_text-limits.result _ _ _ c.without_thin_lto-text.ensures c.for_text-limits.ensures c.with_reread-limited.ensures.reread c.in-Part.ensures.few
+
+pub returns-in-Ok-clause-prints : goal.returns-in-Ok-clause-prints
+returns-in-Ok-clause-prints g c =
+    few_of c.args.format c.args.run.now c.without_thin_lto-text.result.now c.for_text-limits.result _ _ _ c.without_thin_lto-text.ensures c.for_text-limits.ensures c.with_reread-limited.ensures.reread c.in-NoSymbol.ensures.few
+
+pub returns-in-Err-clause-prints : goal.returns-in-Err-clause-prints
+returns-in-Err-clause-prints g c =
+    few_of c.args.format c.args.run.now c.without_thin_lto-text.result.now c.for_text-limits.result _ _ _ c.without_thin_lto-text.ensures c.for_text-limits.ensures c.with_reread-limited.ensures.reread c.in-NoSymbol.ensures.few
+
+pub returns-in-Unknown-clause-prints : goal.returns-in-Unknown-clause-prints
+returns-in-Unknown-clause-prints g c =
+    few_of c.args.format c.args.run.now c.without_thin_lto-text.result.now c.for_text-limits.result _ _ _ c.without_thin_lto-text.ensures c.for_text-limits.ensures c.with_reread-limited.ensures.reread c.in-Unknown.ensures.few

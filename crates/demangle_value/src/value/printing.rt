@@ -1,0 +1,401 @@
+//! Prints symbols into sinks, cut at a limit.
+ghost use Rattle.std.specs.Prelude.{◌≡◌, ◌+◌, ◌-◌, ◌*◌, ◌≤◌, length, true, false, IfSome, IsTrue};
+ghost use Rattle.std.specs.List.{list_all};
+ghost use Rattle.demangle_sink.specs.Cut.{cut};
+ghost use Rattle.demangle_sink.specs.PutsPieces.{PutsPieces};
+ghost use Rattle.demangle_value.specs.Filtered.{is_run_byte, replacement_in};
+ghost use Rattle.demangle_value.specs.LinearPrinting.{PrintsLinear};
+ghost use Rattle.demangle_value.specs.PathEnds.{handed_with_path_len};
+ghost use Rattle.demangle_value.specs.Shape.{limited};
+ghost use Rattle.demangle_value.specs.Stripped.{stripped};
+ghost use Rattle.demangle_value.specs.Style.{style_pieces, style_len, style_looks, style_looks_again, style_least};
+ghost use Rattle.demangle_value.specs.Tried.{IsRunRead};
+ghost use Rattle.demangle_value.specs.Limits.{most_bytes};
+ghost use Rattle.demangle_value.specs.Symbols.{folded, handed, handed_in, PrintingLooks, PrintingLooksIn};
+ghost use Rattle.demangle_sink.specs.Writes.{Writes};
+
+use crate::format::{Format, MAX_SIZE, TextFormat};
+use crate::strip::without_thin_lto;
+use crate::value::{Demangle, DemangleStyle, is_allowed};
+use demangle_sink::{SinkRefused, SizeLimitedFmtAdapter, TextSink, put_piece};
+use demangle_symbol::cursor::{Looks, RunLooks};
+use demangle_v0::{FirstPrint, Printed};
+
+/// Prints a symbol without its suffix into a sink, cut at the limit. Fails if the sink fails.
+fn write_cut<S: TextSink>(
+    style: &DemangleStyle<'_>,
+    out: &mut S,
+    format: TextFormat,
+    looks: &mut Looks,
+) -> Result<(), SinkRefused>
+    requires { S.failed out.old ≡ false }
+    ensures hands { PutsPieces S.TextSink out.old
+        (cut (style_pieces (limited format) style.now) format.limit) result out.new }
+    ensures grows { looks.old ≤ looks.new }
+    ensures most { looks.new ≤ looks.old
+        + style_looks (limited format) format.limit style.now }
+    ensures again { looks.new ≤ looks.old + style_looks_again (limited format) style.now }
+    ensures few { IfSome format.reread (λ k. looks.new ≤ looks.old
+        + 20 * (style_len style.now + 1 + k)) }
+    ensures least { looks.old + style_least style.now ≤ looks.new }
+{
+    let mut limited = SizeLimitedFmtAdapter::with_reread(out, format.limit, format.reread);
+    let result = style.write_to(&mut limited, format, looks);
+    // Printing stops in the same way at the limit and if the sink fails. Only a sink that has not
+    // failed gets the marker.
+    if limited.is_limit_reached() {
+        put_piece("{size limit reached}", out)
+    } else {
+        result
+    }
+}
+
+impl Demangle<'_> {
+    /// Writes the pieces of the symbol into a sink, cut at the limit before the suffix, and counts
+    /// its looks. Fails if the sink fails.
+    pub fn write_pieces<S: TextSink>(
+        &self,
+        out: &mut S,
+        format: Format,
+        looks: &mut Looks,
+    ) -> Result<(), SinkRefused>
+        requires { S.failed out.old ≡ false }
+        ensures hands { PutsPieces S.TextSink out.old (handed_in self.now format) result out.new }
+        ensures looks { PrintingLooksIn self.now format looks.old looks.new }
+    {
+        let Some(style) = &self.style else {
+            return put_piece(self.original, out);
+        };
+        write_cut(style, out, format.for_text(self.original.len()), looks)?;
+        put_piece(self.suffix, out)
+    }
+
+    /// Prints into a sink in a format, and counts its looks, as `write_limited_counted` does.
+    pub fn write_formatted_counted<S: TextSink>(
+        &self,
+        out: &mut S,
+        format: Format,
+        looks: &mut Looks,
+    ) -> Result<(), SinkRefused>
+        requires { S.failed out.old ≡ false }
+        ensures writes { Writes S.TextSink out.old (handed_in self.now format) result out.new }
+        ensures looks { PrintingLooksIn self.now format looks.old looks.new }
+    {
+        self.write_pieces(out, format, looks)
+    }
+
+    /// Prints into a sink in a format, as `write_formatted_counted` does.
+    pub fn write_formatted<S: TextSink>(
+        &self,
+        out: &mut S,
+        format: Format,
+    ) -> Result<(), SinkRefused>
+        requires { S.failed out.old ≡ false }
+        ensures { Writes S.TextSink out.old (handed_in self.now format) result out.new }
+    {
+        self.write_formatted_counted(out, format, &mut Looks::new())
+    }
+
+    /// Prints into a sink, cut at `limit` bytes before the suffix, and counts its looks.
+    ///
+    /// The path ends before a piece that would exceed the limit. Then `{size limit reached}` and
+    /// the suffix follow. A text that is not a symbol has no limit. If the sink has room for all
+    /// pieces, the call succeeds.
+    ///
+    /// # Errors
+    ///
+    /// Fails exactly if the sink failed during this call. The sink then gets no further piece. A
+    /// sink that keeps what it took holds the pieces before the rejected one.
+    pub fn write_limited_counted<S: TextSink>(
+        &self,
+        out: &mut S,
+        include_hash: bool,
+        limit: usize,
+        looks: &mut Looks,
+    ) -> Result<(), SinkRefused>
+        requires { S.failed out.old ≡ false }
+        ensures writes { Writes S.TextSink out.old (handed self.now include_hash limit)
+            result out.new }
+        ensures looks { PrintingLooks self.now include_hash limit looks.old looks.new }
+    {
+        let format = Format::unfolded(include_hash, limit);
+        self.write_formatted_counted(out, format, looks)
+    }
+
+    /// Prints into a sink, cut at `limit` bytes before the suffix, as `write_limited_counted` does.
+    pub fn write_limited<S: TextSink>(
+        &self,
+        out: &mut S,
+        include_hash: bool,
+        limit: usize,
+    ) -> Result<(), SinkRefused>
+        requires { S.failed out.old ≡ false }
+        ensures { Writes S.TextSink out.old (handed self.now include_hash limit)
+            result out.new }
+    {
+        self.write_limited_counted(out, include_hash, limit, &mut Looks::new())
+    }
+
+    /// Prints into a sink with `_` for each list of generic arguments, cut at `limit` bytes before
+    /// the suffix, and counts its looks.
+    ///
+    /// So all instances of a generic function have one name: `foo::bar::<_>` for `foo::bar::<u8>`.
+    /// A list is read and not printed. No reference in it is followed, and no lifetime in it is
+    /// checked. If the list itself prints without an error, all else prints as by
+    /// `write_limited_counted`. A legacy symbol prints completely, because its arguments are parts
+    /// of names.
+    ///
+    /// # Errors
+    ///
+    /// Fails exactly if the sink failed during this call, as `write_limited_counted` says.
+    pub fn write_folded_counted<S: TextSink>(
+        &self,
+        out: &mut S,
+        include_hash: bool,
+        limit: usize,
+        looks: &mut Looks,
+    ) -> Result<(), SinkRefused>
+        requires { S.failed out.old ≡ false }
+        ensures writes { Writes S.TextSink out.old (handed_in self.now (folded include_hash limit))
+            result out.new }
+        ensures looks { PrintingLooksIn self.now (folded include_hash limit)
+            looks.old looks.new }
+    {
+        let format = Format::folded(include_hash, limit);
+        self.write_formatted_counted(out, format, looks)
+    }
+
+    /// Prints into a sink with `_` for each list of generic arguments, cut at `limit` bytes before
+    /// the suffix, as `write_folded_counted` does.
+    pub fn write_folded<S: TextSink>(
+        &self,
+        out: &mut S,
+        include_hash: bool,
+        limit: usize,
+    ) -> Result<(), SinkRefused>
+        requires { S.failed out.old ≡ false }
+        ensures { Writes S.TextSink out.old (handed_in self.now (folded include_hash limit))
+            result out.new }
+    {
+        self.write_folded_counted(out, include_hash, limit, &mut Looks::new())
+    }
+
+    /// Prints into a sink, cut at 1,000,000 bytes before the suffix, and counts its looks, as
+    /// `write_limited_counted` does.
+    pub fn write_counted<S: TextSink>(
+        &self,
+        out: &mut S,
+        include_hash: bool,
+        looks: &mut Looks,
+    ) -> Result<(), SinkRefused>
+        requires { S.failed out.old ≡ false }
+        ensures writes { Writes S.TextSink out.old (handed self.now include_hash most_bytes)
+            result out.new }
+        ensures looks { PrintingLooks self.now include_hash most_bytes looks.old looks.new }
+    {
+        self.write_limited_counted(out, include_hash, MAX_SIZE, looks)
+    }
+
+    /// Prints into a sink, cut at 1,000,000 bytes before the suffix, with or without the hash of a
+    /// legacy symbol. It does not allocate.
+    ///
+    /// # Errors
+    ///
+    /// Fails exactly if the sink failed during this call, as `write_limited_counted` says.
+    pub fn write_to<S: TextSink>(&self, out: &mut S, include_hash: bool) -> Result<(), SinkRefused>
+        requires { S.failed out.old ≡ false }
+        ensures { Writes S.TextSink out.old (handed self.now include_hash most_bytes)
+            result out.new }
+    {
+        self.write_limited(out, include_hash, MAX_SIZE)
+    }
+}
+
+/// What the path of a run may have in bytes for each byte of the run, and beyond that, before the run
+/// is known to be a symbol. Few paths have more. A short run may bring any number of lifetimes into
+/// scope, or print the target of a reference again and again.
+const TIMES_RUN: usize = 4;
+
+const MORE_TEXT: usize = 64;
+
+/// The most bytes of the path of any run before that.
+const MOST_TEXT: usize = 1600;
+
+/// Returns the most bytes of the path of a run that are printed before the run is known to be a symbol.
+#[inline(always)]
+fn text_limit(run: &str, format: TextFormat) -> usize
+    ensures { result ≤ format.limit }
+{
+    let most = run
+        .len()
+        .saturating_mul(TIMES_RUN)
+        .saturating_add(MORE_TEXT);
+    format.limit.min(most.min(MOST_TEXT))
+}
+
+/// Returns how many bytes the path of a run may have beyond a limit after the run was validated. There
+/// are none if the path may be too long for a buffer, so that it is not printed in vain.
+#[inline(always)]
+fn text_withheld(format: TextFormat, limit: usize) -> usize
+    ensures { result ≤ format.limit - limit }
+{
+    if format.limit > MAX_SIZE {
+        return 0;
+    }
+    format.limit.saturating_sub(limit)
+}
+
+/// What is known of a run that was printed before it was known to be a symbol.
+#[derive(Drop)]
+pub enum Tried<'a> {
+    /// The run is a symbol, and its text was printed.
+    Printed,
+    /// The run was read as this text, symbol or not. A part of a path may be printed.
+    Read(Demangle<'a>),
+    /// Nothing is known, and a part of a path may be printed. `Demangle::read_run` says what the run
+    /// is.
+    Unknown,
+}
+
+/// Prints a v0 run before it is known to be a symbol, as `demangle_v0::demangle_printed` does, and
+/// counts its looks. A run is ASCII. Returns what is known of it then.
+///
+/// Nothing is known of a path that is much longer than the run, unless the run was validated before
+/// its end was printed.
+#[inline(never)]
+pub fn print_v0_run<'a, S: TextSink>(
+    run: &'a str,
+    out: &mut S,
+    format: Format,
+    looks: &mut RunLooks,
+) -> Tried<'a>
+    requires run { list_all is_run_byte run.now ≡ true }
+    requires not_failed { S.failed out.old ≡ false }
+    ensures took { result ≡ Tried.Printed →
+        S.took out.old (replacement_in format run.now) out.new }
+    ensures read { IsRunRead run.now result }
+    ensures grows { looks.old.accepting_looks ≤ looks.new.accepting_looks }
+    ensures most { looks.new.accepting_looks ≤ looks.old.accepting_looks + 143 * (length run.now + 1) }
+    ensures early { result ≡ Tried.Unknown → looks.new.accepting_looks
+        ≤ looks.old.accepting_looks + 85 * (length run.now + 1) + 8 }
+    ensures prints { PrintsLinear format 1 (length run.now) looks.old.printing_looks
+        looks.new.printing_looks }
+{
+    let text = without_thin_lto(run);
+    let limits = format.for_text(text.len());
+    let limit = text_limit(run, limits);
+    let mut limited = SizeLimitedFmtAdapter::with_reread(out, limit, limits.reread);
+    let first = FirstPrint {
+        form: limits.form,
+        withheld: text_withheld(limits, limit),
+    };
+    match demangle_v0::demangle_printed(text, &mut limited, first, looks) {
+        Printed::Symbol(symbol, suffix) => {
+            let allowed = is_allowed(suffix, &mut looks.accepting_looks);
+            if allowed && put_piece(suffix, out).is_ok() {
+                return Tried::Printed;
+            }
+            let style = DemangleStyle::V0(symbol);
+            Tried::Read(Demangle::with_style(text, style, suffix, allowed))
+        }
+        Printed::Part(symbol, suffix) => {
+            let allowed = is_allowed(suffix, &mut looks.accepting_looks);
+            let style = DemangleStyle::V0(symbol);
+            Tried::Read(Demangle::with_style(text, style, suffix, allowed))
+        }
+        // A text with the prefix of v0 has not that of the legacy scheme, so this ends at once.
+        Printed::NoSymbol => match demangle_legacy::demangle(
+            text,
+            true,
+            &mut looks.accepting_looks,
+        ) {
+            Ok((symbol, suffix)) => {
+                let allowed = is_allowed(suffix, &mut looks.accepting_looks);
+                let style = DemangleStyle::Legacy(symbol);
+                Tried::Read(Demangle::with_style(text, style, suffix, allowed))
+            }
+            Err(()) => Tried::Read(Demangle::without_style(text)),
+        },
+        Printed::Unknown => Tried::Unknown,
+    }
+}
+
+/// Prints a run that is a legacy symbol, in one pass, and counts its looks. A run is ASCII.
+///
+/// Returns `false` if the run is not a legacy symbol, as `demangle_legacy::demangle_printed` does.
+/// Then an unknown part of the symbol may be in the sink, and `Demangle::read_run` says what the
+/// run is.
+#[inline(never)]
+pub fn print_legacy_run<S: TextSink>(
+    run: &str,
+    out: &mut S,
+    format: Format,
+    looks: &mut Looks,
+) -> bool
+    requires run { list_all is_run_byte run.now ≡ true }
+    requires not_failed { S.failed out.old ≡ false }
+    ensures took { IsTrue result →
+        S.took out.old (replacement_in format run.now) out.new }
+    ensures grows { looks.old ≤ looks.new }
+    ensures most { looks.new ≤ looks.old + 18 * (length run.now + 1) }
+{
+    let text = without_thin_lto(run);
+    let limits = format.for_text(text.len());
+    let mut limited = SizeLimitedFmtAdapter::new(out, limits.limit);
+    let read = demangle_legacy::demangle_printed(text, &mut limited, limits.form, looks);
+    let Some((_, suffix)) = read else {
+        return false;
+    };
+    let allowed = is_allowed(suffix, looks);
+    allowed && put_piece(suffix, out).is_ok()
+}
+
+/// Prints a text into a sink; its path has `path_len` bytes. Fails if the sink fails.
+fn write_pieces_with_path_len<S: TextSink>(
+    text: &str,
+    path_len: usize,
+    out: &mut S,
+    include_hash: bool,
+    limit: usize,
+) -> Result<(), SinkRefused>
+    requires { S.failed out.old ≡ false }
+    ensures { PutsPieces S.TextSink out.old (handed_with_path_len text.now path_len include_hash limit)
+        result out.new }
+{
+    let format = Format::unfolded(include_hash, limit);
+    let mut looks = Looks::new();
+    let Some(symbol) = demangle_v0::ascii_symbol(text, &mut looks) else {
+        let read = Demangle::read(text, false, &mut looks);
+        return read.write_pieces(out, format, &mut looks);
+    };
+    // The caller may pass any number.
+    let suffix = &text[path_len.min(text.len())..];
+    let style = DemangleStyle::V0(symbol);
+    write_cut(&style, out, format.for_text(text.len()), &mut looks)?;
+    put_piece(suffix, out)
+}
+
+/// Prints a symbol as `Demangle::write_limited` does, without parsing the end of its path again.
+/// `path_len` is the result of `Demangle::path_len` for the same text.
+///
+/// A suffix that ThinLTO appended is removed first. For every text and every number, the call ends,
+/// and it prints at most the bytes of the limit, the marker and the text. An ASCII text with a v0
+/// prefix prints its first path as far as the grammar accepts it, and then the text from `path_len`
+/// on. Any other text prints as `demangle` prints it. It does not allocate.
+///
+/// # Errors
+///
+/// Fails exactly if the sink failed during this call.
+pub fn write_with_path_len<S: TextSink>(
+    text: &str,
+    path_len: usize,
+    out: &mut S,
+    include_hash: bool,
+    limit: usize,
+) -> Result<(), SinkRefused>
+    requires { S.failed out.old ≡ false }
+    ensures { Writes S.TextSink out.old
+        (handed_with_path_len (stripped text.now) path_len include_hash limit) result out.new }
+{
+    write_pieces_with_path_len(without_thin_lto(text), path_len, out, include_hash, limit)
+}

@@ -1,0 +1,22 @@
+use Rattle.std.proofs.Common.{refl, sym, subst, ap, ◌∙◌}
+use Rattle.std.proofs.lemmas.Result.{on_ok_weaker}
+use Rattle.std.specs.Io.KnownBytes.{Appends}
+use Rattle.std.specs.List.{concat}
+use Rattle.demangle_value.specs.Symbols.{handed_in, IsSymbol}
+use Rattle.demangle_value.proofs.RunLemmas.{replacement_in-symbol, replacement_in-no_symbol}
+use Rattle.demangle_value.proofs.LinearPrinting.{prints_linear}
+use Rattle.rustc_demangle.proofs.stream.line_writer.write_read_at_once.Goals as goal
+
+pub returns-then-has_style-clause-text : goal.returns-then-has_style-clause-text
+returns-then-has_style-clause-text g c =
+    let is = subst IsSymbol c.requires (c.if-has_style.ensures.yes refl) in
+    let text = ap (λ s. concat (handed_in s c.args.format)) c.requires ∙ sym (replacement_in-symbol c.args.format c.args.run.now is) in
+    on_ok_weaker c.write_symbol_at_once.result (subst (Appends (g.W.Write.contents c.args.output.now) (g.W.Write.contents c.write_symbol_at_once.new.output)) text) c.write_symbol_at_once.ensures.text
+
+pub returns-else-has_style-clause-text : goal.returns-else-has_style-clause-text
+returns-else-has_style-clause-text g c =
+    let text = sym (replacement_in-no_symbol c.args.format c.args.run.now (λ is. c.if-has_style.ensures.no refl (subst IsSymbol (sym c.requires) is))) in
+    on_ok_weaker c.write_text.result (subst (Appends (g.W.Write.contents c.args.output.now) (g.W.Write.contents c.write_text.new.output)) text) c.write_text.ensures
+
+pub returns-then-has_style-clause-prints : goal.returns-then-has_style-clause-prints
+returns-then-has_style-clause-prints g c = prints_linear c.args.format c.args.symbol.now c.args.run.now _ _ c.requires c.write_symbol_at_once.ensures.looks

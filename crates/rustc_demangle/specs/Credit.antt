@@ -1,0 +1,13 @@
+-- Internal: no public contract cites this.
+-- What a run that was printed in vain costs.
+use Rattle.std.specs.Prelude.{ℕ, Bool, false, ◌==◌, ◌&&◌, ◌||◌, ◌+◌, ◌/◌, List, ◌∷◌, length, if◌then◌else◌}
+
+-- the run, or the run without its first byte `_`, starts as a v0 symbol: its second byte is `R`, or its second and
+-- third bytes are `_R`
+abbrev pub is_v0_run : List ℕ → Bool
+is_v0_run (first ∷ second ∷ third ∷ rest) = second == 82 || (second == 95 && third == 82)
+is_v0_run _ = false
+
+-- the number of symbols that have to be read after this run, if `owed` had to be read before
+abbrev pub owed_after : List ℕ → ℕ → ℕ
+owed_after run owed = if is_v0_run run then length run / 4 + 1 else owed
