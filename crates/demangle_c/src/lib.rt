@@ -7,10 +7,10 @@ ghost use Prim.Native.Nat.{min};
 ghost use Rattle.std.specs.List.{concat};
 ghost use Rattle.rustc_demangle.specs.Cut.{size};
 ghost use Rattle.rustc_demangle.specs.Rewritten.{rewritten_in};
-ghost use Rattle.rustc_demangle.specs.PathEnds.{path_len_of, handed_with_path_len};
+ghost use Rattle.demangle_value.specs.PathEnds.{path_len_of, handed_with_path_len};
 ghost use Rattle.rustc_demangle.specs.Slice.{overlay};
-ghost use Rattle.rustc_demangle.specs.Stripped.{stripped};
-ghost use Rattle.rustc_demangle.specs.Symbols.{folded};
+ghost use Rattle.demangle_value.specs.Stripped.{stripped};
+ghost use Rattle.demangle_value.specs.Symbols.{folded};
 ghost use Rattle.demangle_c_string.specs.CString.{IsRustSymbol, path_in, printed_path, path_within, c_string, texts};
 
 #[cfg(test)]
@@ -82,7 +82,7 @@ pub extern "C" fn kodliwe_symbol_len(symbol: &[u8]) -> usize
 ///
 /// `kodliwe_print_part` needs this number. The call prints nothing and does not allocate.
 #[unsafe(no_mangle)]
-#[tactic(auto, using(rustc_demangle::proofs::PathEndLaws::path_len_positive))]
+#[tactic(auto, using(demangle_value::proofs::PathEndLaws::path_len_positive))]
 pub extern "C" fn kodliwe_path_len(symbol: &[u8]) -> usize
     ensures none { (IsRustSymbol symbol.now → ⊥) → result ≡ 0 }
     ensures len { IsRustSymbol symbol.now → result ≡ path_len_of (stripped symbol.now) }

@@ -1,11 +1,11 @@
 -- The limit of a path is at most the default one.
 use Rattle.std.proofs.Common.{◌≡◌, ℕ, ◌-◌, ◌*◌, ◌≤◌, List, length, subst, sym}
 use Rattle.std.proofs.Math.Nat.{min-le_left, min-le_right}
-use Rattle.rustc_demangle.specs.Limits.{most_bytes, bytes_within}
-use Rattle.rustc_demangle.specs.Symbols.{limit_in}
-use Rattle.rustc_demangle.specs.declared.format.Format.{Format}
-use Rattle.rustc_demangle.specs.declared.format.SizeLimit.{SizeLimit}
-use Rattle.rustc_demangle.specs.declared.format.SizeLimit.TheVariants as size
+use Rattle.demangle_value.specs.Limits.{most_bytes, bytes_within}
+use Rattle.demangle_value.specs.Symbols.{limit_in}
+use Rattle.demangle_value.specs.declared.format.Format.{Format}
+use Rattle.demangle_value.specs.declared.format.SizeLimit.{SizeLimit}
+use Rattle.demangle_value.specs.declared.format.SizeLimit.TheVariants as size
 use Rattle.demangle_c_string.specs.CString.{at_most_default, capped}
 
 within_default : (limit : SizeLimit) (n : ℕ) → bytes_within (at_most_default limit) n ≤ most_bytes

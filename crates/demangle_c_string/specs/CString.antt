@@ -4,12 +4,12 @@ use Rattle.std.below.core.specs.declared.int.usize.TheConstants.{MAX}
 use Rattle.rustc_demangle.specs.Reading as reading
 use Prim.Native.Nat.{min}
 use Rattle.std.specs.List.{concat}
-use Rattle.rustc_demangle.specs.Stripped.{stripped}
-use Rattle.rustc_demangle.specs.Symbols.{IsSymbol, handed_in, printed, unfolded, bounded}
-use Rattle.rustc_demangle.specs.Limits.{most_bytes}
-use Rattle.rustc_demangle.specs.declared.format.Format.{Format}
-use Rattle.rustc_demangle.specs.declared.format.SizeLimit.{SizeLimit}
-use Rattle.rustc_demangle.specs.declared.format.SizeLimit.TheVariants as size
+use Rattle.demangle_value.specs.Stripped.{stripped}
+use Rattle.demangle_value.specs.Symbols.{IsSymbol, handed_in, printed, unfolded, bounded}
+use Rattle.demangle_value.specs.Limits.{most_bytes}
+use Rattle.demangle_value.specs.declared.format.Format.{Format}
+use Rattle.demangle_value.specs.declared.format.SizeLimit.{SizeLimit}
+use Rattle.demangle_value.specs.declared.format.SizeLimit.TheVariants as size
 
 -- the bytes are a Rust symbol, after a suffix of ThinLTO is removed
 abbrev pub IsRustSymbol : List ℕ → Type 0

@@ -9,8 +9,8 @@ ghost use Rattle.rustc_demangle.specs.Cut.{size};
 ghost use Rattle.rustc_demangle.specs.LinearLooks.{LooksLinear};
 ghost use Rattle.rustc_demangle.specs.Rewritten.{rewritten_in};
 ghost use Rattle.rustc_demangle.specs.Slice.{overlay};
-ghost use Rattle.rustc_demangle.specs.Stripped.{stripped};
-ghost use Rattle.rustc_demangle.specs.Symbols.{handed_in};
+ghost use Rattle.demangle_value.specs.Stripped.{stripped};
+ghost use Rattle.demangle_value.specs.Symbols.{handed_in};
 ghost use Rattle.demangle_c_string.specs.CString.{IsRustSymbol, path_in, path_in_text, path_within, capped, c_string, text_in, text_limit, texts};
 
 use rustc_demangle::sink::SliceSink;
@@ -23,7 +23,7 @@ use std::str;
 pub const MAX_SIZE: usize = 1_000_000;
 
 /// Returns the bytes as text, or `None` if they are not UTF-8. In that case they are not a symbol.
-#[tactic(auto, using(rustc_demangle::proofs::SymbolLaws::symbols_utf8))]
+#[tactic(auto, using(demangle_value::proofs::SymbolLaws::symbols_utf8))]
 pub fn text_of(bytes: &[u8]) -> Option<&str>
     ensures text { IfSome result (λ text. text.now ≡ bytes.now) }
     ensures none { IfNone result (IsRustSymbol bytes.now → ⊥) }

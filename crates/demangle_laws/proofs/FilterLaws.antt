@@ -6,13 +6,13 @@ use Rattle.std.proofs.lemmas.List.{take-append-drop}
 use Rattle.std.proofs.lemmas.List.Sums.{take_while-cons}
 use Rattle.std.specs.List.{prefix_len, take_while, list_all, concat}
 use Rattle.std.proofs.lemmas.Bool.{true≢false}
-use Rattle.rustc_demangle.specs.Stripped.{stripped}
-use Rattle.rustc_demangle.specs.Symbols.{IsSymbol, pieces_in, form_in, handed_in}
-use Rattle.rustc_demangle.specs.declared.format.Format.{Format}
-use Rattle.rustc_demangle.proofs.SymbolLemmas.{symbol-pieces, pieces-symbol}
-use Rattle.rustc_demangle.specs.Filtered.{by_runs, is_run_byte, starts_run, HasNoStart, StartsOutsideRun, IsRun, IsReplacement, AreReplaced, IsFiltered, replacement_in, filtered_by, filtered_in}
-use Rattle.rustc_demangle.proofs.RunStarts.{begins_prefix}
-use Rattle.rustc_demangle.proofs.RunLemmas.{turn, filtered_other, filtered_run, filtered_all, begins_with, first_of_run, replacement_in-symbol, replacement_in-no_symbol}
+use Rattle.demangle_value.specs.Stripped.{stripped}
+use Rattle.demangle_value.specs.Symbols.{IsSymbol, pieces_in, form_in, handed_in}
+use Rattle.demangle_value.specs.declared.format.Format.{Format}
+use Rattle.demangle_value.proofs.SymbolLemmas.{symbol-pieces, pieces-symbol}
+use Rattle.demangle_value.specs.Filtered.{by_runs, is_run_byte, starts_run, HasNoStart, StartsOutsideRun, IsRun, IsReplacement, AreReplaced, IsFiltered, replacement_in, filtered_by, filtered_in}
+use Rattle.demangle_value.proofs.RunStarts.{begins_prefix}
+use Rattle.demangle_value.proofs.RunLemmas.{turn, filtered_other, filtered_run, filtered_all, begins_with, first_of_run, replacement_in-symbol, replacement_in-no_symbol}
 
 pub cases : (b : Bool) → (b ≡ true) ⊎ (b ≡ false)
 cases true = inl refl

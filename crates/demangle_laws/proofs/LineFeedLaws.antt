@@ -8,22 +8,22 @@ use Rattle.std.proofs.lemmas.Bool.{true≢false}
 use Rattle.std.specs.Char.{encode_utf8, is_control}
 use Rattle.demangle_symbol.specs.Digits.{number}
 use lib.Utf8.{scalar as is_scalar}
-use Rattle.rustc_demangle.specs.Stripped.{stripped, is_thin_lto}
-use Rattle.rustc_demangle.specs.Limits.{most_bytes}
-use Rattle.rustc_demangle.specs.Symbols.{IsSymbol, pieces_in, form_in, limit_in, handed_in, unfolded}
-use Rattle.rustc_demangle.specs.declared.format.Format.{Format}
-use Rattle.rustc_demangle.specs.Filtered.{by_runs, is_run_byte, starts_run, replacement_in, filtered_by, filtered}
+use Rattle.demangle_value.specs.Stripped.{stripped, is_thin_lto}
+use Rattle.demangle_value.specs.Limits.{most_bytes}
+use Rattle.demangle_value.specs.Symbols.{IsSymbol, pieces_in, form_in, limit_in, handed_in, unfolded}
+use Rattle.demangle_value.specs.declared.format.Format.{Format}
+use Rattle.demangle_value.specs.Filtered.{by_runs, is_run_byte, starts_run, replacement_in, filtered_by, filtered}
 use Rattle.rustc_demangle.specs.LineStream.{output_of}
 use Rattle.demangle_laws.proofs.FilterLaws.{run_all}
 use Rattle.rustc_demangle.proofs.LineDivision.{lines_join}
-use Rattle.rustc_demangle.proofs.RunLemmas.{turn, first_of_run}
+use Rattle.demangle_value.proofs.RunLemmas.{turn, first_of_run}
 use Rattle.demangle_legacy.proofs.LegacyLaws.{legacy_spelled}
-use Rattle.rustc_demangle.proofs.SymbolLemmas.{symbol-pieces, pieces-legacy, pieces-v0}
+use Rattle.demangle_value.proofs.SymbolLemmas.{symbol-pieces, pieces-legacy, pieces-v0}
 use Rattle.demangle_v0_grammar.proofs.V0Reading.{v0_is_read}
 use Rattle.demangle_laws.proofs.V0LineFeeds.{line_feeds-rendered}
 use Rattle.demangle_v0_grammar.specs.References.{Move, says, follows, ends, bytes_after, texts_before, path_moves}
 use Rattle.demangle_v0_grammar.proofs.ReferenceLaw.{unlimited_texts}
-use Rattle.rustc_demangle.specs.Shape.{LimitedForm, texts_within, is_all, marked_unless, path_texts, legacy_pieces}
+use Rattle.demangle_value.specs.Shape.{LimitedForm, texts_within, is_all, marked_unless, path_texts, legacy_pieces}
 use Rattle.demangle_sink.specs.Cut.{size, prefix_within, cut, marker}
 use Rattle.rustc_demangle.specs.Lines.{lines, line_feeds}
 use Rattle.demangle_legacy.specs.Legacy.{IsElements, IsLegacy}

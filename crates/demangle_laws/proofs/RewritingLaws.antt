@@ -9,12 +9,12 @@ use Rattle.std.specs.List.{prefix_len, take_while, list_all, concat}
 use Rattle.std.proofs.lemmas.List.Folds.{list_all-append}
 use Rattle.rustc_demangle.specs.Lines.{lines, line_feeds, AreLines}
 use Rattle.rustc_demangle.specs.ByteStream.{SplitsNoCandidate}
-use Rattle.rustc_demangle.specs.Filtered.{is_run_byte, starts_run, HasNoStart, StartsOutsideRun, IsRun, replacement_in}
+use Rattle.demangle_value.specs.Filtered.{is_run_byte, starts_run, HasNoStart, StartsOutsideRun, IsRun, replacement_in}
 use Rattle.rustc_demangle.specs.Rewritten.{before_of, before_after, starts_candidate, replacement_after, rewritten_by, rewritten_in, EndsSingle, EndsAlphanumeric, EndsOutside, IsReplacementAfter, AreRewritten, IsRewritten}
-use Rattle.rustc_demangle.specs.declared.format.Format.{Format}
+use Rattle.demangle_value.specs.declared.format.Format.{Format}
 use Rattle.rustc_demangle.specs.declared.byte_before.ByteBefore.{ByteBefore}
 use Rattle.rustc_demangle.specs.declared.byte_before.ByteBefore.TheVariants.{Outside, Alphanumeric, Mark}
-use Rattle.rustc_demangle.proofs.RunStarts.{begins_more, all_prefix, and_right}
+use Rattle.demangle_value.proofs.RunStarts.{begins_more, all_prefix, and_right}
 use Rattle.rustc_demangle.proofs.CandidateLemmas.{candidate_turn, or_false, before_after-append, last_before, first_of_candidate, rewritten_nothing, single_of, single_parts, candidate_of, run_candidate, rewritten_candidate, rewritten_split, rewritten_plain, rewritten_outside, HasNoCandidate, cuts_plain, plain_of}
 use Rattle.rustc_demangle.proofs.ByteStreamLemmas.{seam}
 use Rattle.rustc_demangle.proofs.SliceLemmas.{rewritten_all}

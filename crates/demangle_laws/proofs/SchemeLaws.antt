@@ -3,14 +3,14 @@ use Rattle.std.proofs.Common.{◌≡◌, ◌⊎◌, inl, inr, ℕ, true, List, [
 use Rattle.std.specs.Option.{option_map_or}
 use Rattle.demangle_sink.specs.Cut.{cut, kept}
 use Rattle.demangle_legacy.specs.Legacy.{IsLegacy, IsLegacyPrefix}
-use Rattle.rustc_demangle.specs.Shape.{LimitedForm, path_texts, legacy_pieces}
-use Rattle.rustc_demangle.specs.Stripped.{is_allowed}
-use Rattle.rustc_demangle.specs.Filtered.{starts_run}
-use Rattle.rustc_demangle.specs.Symbols.{IsSymbol, form_in, limit_in, pieces_in, handed_in, kept_in}
-use Rattle.rustc_demangle.specs.declared.format.Format.{Format}
+use Rattle.demangle_value.specs.Shape.{LimitedForm, path_texts, legacy_pieces}
+use Rattle.demangle_value.specs.Stripped.{is_allowed}
+use Rattle.demangle_value.specs.Filtered.{starts_run}
+use Rattle.demangle_value.specs.Symbols.{IsSymbol, form_in, limit_in, pieces_in, handed_in, kept_in}
+use Rattle.demangle_value.specs.declared.format.Format.{Format}
 use Rattle.demangle_v0_grammar.specs.V0.{IsV0, IsV0Prefix}
 use Rattle.demangle_legacy.proofs.LegacyLaws.{legacy_spelled}
-use Rattle.rustc_demangle.proofs.SymbolLemmas.{no_legacy, pieces-legacy, pieces-v0, none≢some}
+use Rattle.demangle_value.proofs.SymbolLemmas.{no_legacy, pieces-legacy, pieces-v0, none≢some}
 use Rattle.demangle_v0_grammar.proofs.V0Reading.{v0_is_read}
 
 handed_of : (text : List ℕ) (format : Format) (read : List (List ℕ) × List ℕ) → pieces_in (form_in format text) text ≡ Some read → handed_in text format ≡ cut read.0 (limit_in format text) ++ read.1 ∷ []

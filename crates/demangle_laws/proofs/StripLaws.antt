@@ -4,8 +4,8 @@ use Rattle.std.specs.Prelude.{codes}
 use Rattle.std.specs.List.{starts_with, list_all}
 use Rattle.std.proofs.lemmas.List.{take-append-drop, take_at, drop_at}
 use Rattle.std.proofs.lemmas.Bool.{true≢false}
-use Rattle.rustc_demangle.specs.Stripped.{stripped, is_thin_lto, IsCut}
-use Rattle.rustc_demangle.proofs.Stripping.{ending, begins, stripped_at, stripped_none}
+use Rattle.demangle_value.specs.Stripped.{stripped, is_thin_lto, IsCut}
+use Rattle.demangle_value.proofs.Stripping.{ending, begins, stripped_at, stripped_none}
 
 length-take_le : (i : ℕ) (s : List ℕ) → length (take i s) ≤ i
 length-take_le zero s = omega arith

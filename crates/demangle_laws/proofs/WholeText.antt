@@ -4,9 +4,9 @@ use Rattle.std.specs.List.{prefix_len, take_while, starts_with}
 use Rattle.std.proofs.lemmas.List.Sums.{take_while-cons}
 use Rattle.std.proofs.lemmas.Bool.{true≢false}
 use Rattle.rustc_demangle.specs.Lines.{lines, onto_first}
-use Rattle.rustc_demangle.specs.Filtered.{by_runs, is_run_byte, starts_run, replacement, filtered_by, filtered}
+use Rattle.demangle_value.specs.Filtered.{by_runs, is_run_byte, starts_run, replacement, filtered_by, filtered}
 use Rattle.rustc_demangle.specs.LineStream.{output_of}
-use Rattle.rustc_demangle.proofs.RunLemmas.{turn}
+use Rattle.demangle_value.proofs.RunLemmas.{turn}
 
 abbrev first : List (List ℕ) → List ℕ
 first [] = []

@@ -1,15 +1,15 @@
 //! Laws about the lines of a text and their output.
 ghost use Rattle.std.specs.Prelude.{◌≡◌, ◌↔◌, ◌∷◌, ◌++◌, ℕ, List, [], Bool, false, Some, OnOk, IfErr, IsUtf8, flat_map, length, ◌*◌, ◌≤◌};
 ghost use Rattle.std.specs.List.{concat};
-ghost use Rattle.rustc_demangle.specs.Filtered.{HasNoStart, IsFiltered, filtered, filtered_in, filtered_within, is_run_byte};
+ghost use Rattle.demangle_value.specs.Filtered.{HasNoStart, IsFiltered, filtered, filtered_in, filtered_within, is_run_byte};
 ghost use Rattle.rustc_demangle.specs.Rewritten.{IsRewritten, before_after, rewritten_after, rewritten_in};
 ghost use Rattle.rustc_demangle.specs.ByteStream.{SplitsNoCandidate};
 ghost use Rattle.rustc_demangle.specs.Lines.{lines, line_feeds, OnlyLines};
 ghost use Rattle.rustc_demangle.specs.TextPieces.{filtered_pieces};
 ghost use Rattle.rustc_demangle.specs.LineStream.{output_of, StreamStopped};
-ghost use Rattle.rustc_demangle.specs.Symbols.{handed_in};
-ghost use Rattle.rustc_demangle.specs.declared.format.Format.{Format};
-ghost use Rattle.rustc_demangle.specs.declared.format.SizeLimit.TheVariants.{Linear};
+ghost use Rattle.demangle_value.specs.Symbols.{handed_in};
+ghost use Rattle.demangle_value.specs.declared.format.Format.{Format};
+ghost use Rattle.demangle_value.specs.declared.format.SizeLimit.TheVariants.{Linear};
 ghost use Rattle.rustc_demangle.specs.declared.byte_before.ByteBefore.{ByteBefore};
 
 use rustc_demangle::{StreamFault, demangle_stream_named};

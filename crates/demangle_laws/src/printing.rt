@@ -3,12 +3,12 @@ ghost use Rattle.std.specs.Prelude.{◌≡◌, ◌⊎◌, ℕ, ◌+◌, ◌≤�
 ghost use Rattle.std.specs.List.{concat, list_all};
 ghost use Rattle.demangle_sink.specs.Array.{text_of};
 ghost use Rattle.demangle_sink.specs.Cut.{size};
-ghost use Rattle.rustc_demangle.specs.Shape.{form, legacy_pieces};
-ghost use Rattle.rustc_demangle.specs.Hashes.{OmitsHash};
+ghost use Rattle.demangle_value.specs.Shape.{form, legacy_pieces};
+ghost use Rattle.demangle_value.specs.Hashes.{OmitsHash};
 ghost use Rattle.demangle_legacy.specs.Legacy.{IsLegacy};
-ghost use Rattle.rustc_demangle.specs.Stripped.{stripped, is_thin_lto, is_allowed, IsCut};
-ghost use Rattle.rustc_demangle.specs.Limits.{most_bytes};
-ghost use Rattle.rustc_demangle.specs.Symbols.{IsSymbol, handed, kept_of, pieces_of, printed};
+ghost use Rattle.demangle_value.specs.Stripped.{stripped, is_thin_lto, is_allowed, IsCut};
+ghost use Rattle.demangle_value.specs.Limits.{most_bytes};
+ghost use Rattle.demangle_value.specs.Symbols.{IsSymbol, handed, kept_of, pieces_of, printed};
 
 use demangle_sink::{ArraySink, SinkRefused, TextSink};
 use rustc_demangle::Demangle;
@@ -40,14 +40,14 @@ pub fn symbol_stays_within_limit()
 
 /// A symbol prints at most the bytes of the limit, the 20 of the marker, and the number of its own
 /// bytes.
-#[tactic(auto, using(rustc_demangle::proofs::SymbolLaws::length_handed))]
+#[tactic(auto, using(demangle_value::proofs::SymbolLaws::length_handed))]
 pub fn symbol_text_is_bounded()
     ensures { (text : List ℕ) → (hash : Bool) → (limit : ℕ) → IsSymbol text →
         length (concat (handed text hash limit)) ≤ limit + 20 + length text }
 {}
 
 /// A text is ASCII if it is a symbol after stripping.
-#[tactic(auto, using(rustc_demangle::proofs::SymbolLaws::symbols_ascii))]
+#[tactic(auto, using(demangle_value::proofs::SymbolLaws::symbols_ascii))]
 pub fn symbols_are_ascii()
     ensures { (text : List ℕ) → IsSymbol (stripped text) → IsAscii text }
 {}

@@ -2,11 +2,11 @@
 ghost use Rattle.std.specs.Prelude.{◌≡◌, ◌⊎◌, ℕ, Bool, true, false, List, [], ◌∷◌, ◌++◌, codes};
 ghost use Rattle.demangle_sink.specs.Cut.{cut, kept};
 ghost use Rattle.demangle_legacy.specs.Legacy.{IsLegacy};
-ghost use Rattle.rustc_demangle.specs.Shape.{form, path_texts, legacy_pieces};
-ghost use Rattle.rustc_demangle.specs.Stripped.{is_allowed};
-ghost use Rattle.rustc_demangle.specs.Filtered.{starts_run};
-ghost use Rattle.rustc_demangle.specs.Symbols.{form_in, limit_in, handed, handed_in, kept_of, IsSymbol};
-ghost use Rattle.rustc_demangle.specs.declared.format.Format.{Format};
+ghost use Rattle.demangle_value.specs.Shape.{form, path_texts, legacy_pieces};
+ghost use Rattle.demangle_value.specs.Stripped.{is_allowed};
+ghost use Rattle.demangle_value.specs.Filtered.{starts_run};
+ghost use Rattle.demangle_value.specs.Symbols.{form_in, limit_in, handed, handed_in, kept_of, IsSymbol};
+ghost use Rattle.demangle_value.specs.declared.format.Format.{Format};
 ghost use Rattle.demangle_v0_grammar.specs.V0.{IsV0};
 
 /// A legacy symbol with an allowed suffix prints the pieces of its elements, cut at the limit, and

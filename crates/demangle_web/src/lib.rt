@@ -7,7 +7,7 @@ ghost use Rattle.std.specs.Prelude.{◌≡◌, ◌+◌, ◌<◌, ◌≤◌, ◌�
 ghost use Prim.Native.Nat.{min};
 ghost use Rattle.std.specs.List.{prefix_len};
 ghost use Rattle.rustc_demangle.specs.Cut.{size};
-ghost use Rattle.rustc_demangle.specs.Filtered.{is_run_byte, starts_run};
+ghost use Rattle.demangle_value.specs.Filtered.{is_run_byte, starts_run};
 ghost use Rattle.rustc_demangle.specs.Rewritten.{before_after, rewritten_in, IsPlainLen};
 ghost use Rattle.rustc_demangle.specs.declared.byte_before.ByteBefore.TheVariants.{Outside, Alphanumeric};
 ghost use Rattle.rustc_demangle.specs.Slice.{overlay};

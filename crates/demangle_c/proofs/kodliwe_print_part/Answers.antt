@@ -1,12 +1,12 @@
 use Rattle.std.proofs.Common.{◌≡◌, ℕ, ◌+◌, List, Bool, length, drop, ap, ◌∙◌, arith}
 use Rattle.std.proofs.lemmas.List.{length-drop}
 use Rattle.std.specs.List.{concat}
-use Rattle.rustc_demangle.specs.PathEnds.{path_len_of, handed_with_path_len}
+use Rattle.demangle_value.specs.PathEnds.{path_len_of, handed_with_path_len}
 use Rattle.rustc_demangle.specs.Slice.{overlay}
-use Rattle.rustc_demangle.specs.Stripped.{stripped}
-use Rattle.rustc_demangle.proofs.PathEndLaws.{handed_with_path_len-symbol, size_handed_with}
-use Rattle.rustc_demangle.proofs.Stripping.{stripped-shorter}
-use Rattle.rustc_demangle.proofs.SymbolLaws.{length-concat}
+use Rattle.demangle_value.specs.Stripped.{stripped}
+use Rattle.demangle_value.proofs.PathEndLaws.{handed_with_path_len-symbol, size_handed_with}
+use Rattle.demangle_value.proofs.Stripping.{stripped-shorter}
+use Rattle.demangle_value.proofs.SymbolLaws.{length-concat}
 use Rattle.demangle_c_string.specs.CString.{IsRustSymbol, c_string, path_within}
 use Rattle.demangle_c.proofs.kodliwe_print_part.Goals as goal
 

@@ -1,11 +1,11 @@
 use Rattle.std.proofs.Common.{◌≡◌, length, drop, sym, ap, subst, ◌∙◌, arith}
 use Rattle.std.proofs.lemmas.List.{length-drop}
 use Rattle.rustc_demangle.specs.Slice.{overlay}
-use Rattle.rustc_demangle.specs.Symbols.{IsSymbol, handed_in}
-use Rattle.rustc_demangle.specs.declared.format.Format.{Format}
+use Rattle.demangle_value.specs.Symbols.{IsSymbol, handed_in}
+use Rattle.demangle_value.specs.declared.format.Format.{Format}
 use Rattle.std.specs.List.{concat}
-use Rattle.rustc_demangle.proofs.Stripping.{stripped-shorter}
-use Rattle.rustc_demangle.proofs.SymbolLaws.{size_symbol_in, length_handed_in}
+use Rattle.demangle_value.proofs.Stripping.{stripped-shorter}
+use Rattle.demangle_value.proofs.SymbolLaws.{size_symbol_in, length_handed_in}
 use Rattle.demangle_c_string.specs.CString.{c_string, path_in}
 use Rattle.demangle_c_string.proofs.PathLimits.{capped_limit}
 use Rattle.demangle_c_string.proofs.write_part_formatted.Goals as goal

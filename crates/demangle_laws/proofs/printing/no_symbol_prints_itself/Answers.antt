@@ -1,5 +1,5 @@
-use Rattle.rustc_demangle.specs.Symbols.{unfolded}
-use Rattle.rustc_demangle.proofs.PrintingLaws.{handed-no_symbol, kept-no_symbol}
+use Rattle.demangle_value.specs.Symbols.{unfolded}
+use Rattle.demangle_value.proofs.PrintingLaws.{handed-no_symbol, kept-no_symbol}
 use Rattle.demangle_laws.proofs.printing.no_symbol_prints_itself.Goals as goal
 
 pub returns : goal.returns

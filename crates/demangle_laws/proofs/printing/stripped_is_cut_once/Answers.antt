@@ -1,5 +1,5 @@
 use Rattle.demangle_laws.proofs.StripLaws.{stripped-cut, stripped-whole}
-use Rattle.rustc_demangle.proofs.Stripping.{stripped-stripped}
+use Rattle.demangle_value.proofs.Stripping.{stripped-stripped}
 use Rattle.demangle_laws.proofs.printing.stripped_is_cut_once.Goals as goal
 
 pub returns-clause-cut : goal.returns-clause-cut

@@ -1,5 +1,5 @@
-use Rattle.rustc_demangle.specs.Symbols.{unfolded}
-use Rattle.rustc_demangle.proofs.PrintingLaws.{size-handed}
+use Rattle.demangle_value.specs.Symbols.{unfolded}
+use Rattle.demangle_value.proofs.PrintingLaws.{size-handed}
 use Rattle.demangle_laws.proofs.printing.symbol_stays_within_limit.Goals as goal
 
 pub returns : goal.returns

@@ -1,4 +1,4 @@
-use Rattle.rustc_demangle.specs.Symbols.{unfolded}
+use Rattle.demangle_value.specs.Symbols.{unfolded}
 use Rattle.demangle_laws.proofs.SchemeLaws.{legacy-handed, legacy-kept}
 use Rattle.demangle_laws.proofs.symbols.legacy_symbol_prints_its_elements.Goals as goal
 

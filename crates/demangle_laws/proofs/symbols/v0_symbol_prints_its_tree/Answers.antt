@@ -1,4 +1,4 @@
-use Rattle.rustc_demangle.specs.Symbols.{unfolded}
+use Rattle.demangle_value.specs.Symbols.{unfolded}
 use Rattle.demangle_laws.proofs.SchemeLaws.{v0-handed, v0-kept}
 use Rattle.demangle_laws.proofs.symbols.v0_symbol_prints_its_tree.Goals as goal
 
