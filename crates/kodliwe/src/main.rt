@@ -1,25 +1,8 @@
 //! Copies texts with each Rust symbol demangled.
 #![tactic(auto)]
 
-mod about;
-mod arguments;
-mod coalescing;
-mod descriptors;
-mod embedded;
-mod error;
-mod filtering;
-mod help;
-mod inputs;
-mod noting;
-mod program;
-mod replacement;
-mod same_file;
-#[cfg(test)]
-mod tests;
-mod version;
-
-use descriptors::take_closed_streams;
-use program::{Host, arguments_error, start};
+use kodliwe_program::descriptors::take_closed_streams;
+use kodliwe_program::program::{Host, arguments_error, start};
 use std::io::Write;
 use std::process::ExitCode;
 use std::rt::Env;

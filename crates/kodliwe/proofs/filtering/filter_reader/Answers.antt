@@ -1,5 +1,0 @@
-use Rattle.kodliwe.proofs.FilteringLemmas.{stopped_none}
-use Rattle.kodliwe.proofs.filtering.filter_reader.Goals as goal
-
-pub returns-in_default-clause-err : goal.returns-in_default-clause-err
-returns-in_default-clause-err g c = stopped_none _ _ _
