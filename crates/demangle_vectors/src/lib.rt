@@ -3,9 +3,9 @@
 
 ghost use Rattle.std.specs.Prelude.{◌≡◌, ◌≢◌, ◌≤◌, IsTrue, false};
 ghost use Rattle.rustc_demangle.specs.Cut.{size};
-ghost use Rattle.rustc_demangle.specs.Stripped.{stripped};
-ghost use Rattle.rustc_demangle.specs.Limits.{most_bytes};
-ghost use Rattle.rustc_demangle.specs.Symbols.{handed, printed};
+ghost use Rattle.demangle_value.specs.Stripped.{stripped};
+ghost use Rattle.demangle_value.specs.Limits.{most_bytes};
+ghost use Rattle.demangle_value.specs.Symbols.{handed, printed};
 
 #[cfg(test)]
 mod tests;

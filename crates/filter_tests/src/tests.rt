@@ -4,6 +4,7 @@ mod bytes;
 mod bytes_before;
 mod faults;
 mod formats;
+mod memory;
 mod repeats;
 mod slices;
 mod stream;

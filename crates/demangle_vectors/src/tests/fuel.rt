@@ -2,7 +2,7 @@
 use demangle_sink::{ArraySink, SizeLimitedFmtAdapter};
 use demangle_symbol::cursor::RunLooks;
 use demangle_symbol::form::Form;
-use demangle_v0::Printed;
+use demangle_v0::{FirstPrint, Printed};
 use std::alloc::{AllocError, Global};
 use std::process::Abort;
 use std::test::Fail;
@@ -26,8 +26,9 @@ fn is_printed_first(text: &str, limit: usize, form: Form) -> bool {
     let mut sink: ArraySink<4096> = ArraySink::new();
     let mut out = SizeLimitedFmtAdapter::new(&mut sink, limit);
     let looks = &mut RunLooks::new();
+    let first = FirstPrint { form, withheld: 0 };
     matches!(
-        demangle_v0::demangle_printed(text, &mut out, form, looks),
+        demangle_v0::demangle_printed(text, &mut out, first, looks),
         Printed::Symbol(_, "x")
     )
 }
@@ -53,7 +54,11 @@ fn assert_prints_whole(rt: &impl Abort, symbol: &str, wanted: &str) {
     let mut sink: ArraySink<4096> = ArraySink::new();
     let mut out = SizeLimitedFmtAdapter::new(&mut sink, 4096);
     let looks = &mut RunLooks::new();
-    let printed = demangle_v0::demangle_printed(symbol, &mut out, PLAIN, looks);
+    let first = FirstPrint {
+        form: PLAIN,
+        withheld: 0,
+    };
+    let printed = demangle_v0::demangle_printed(symbol, &mut out, first, looks);
     assert!(rt; matches!(printed, Printed::Symbol(_, "")), "of {symbol}");
     assert_eq!(rt; sink.as_str(), wanted, "of {symbol}");
 }
@@ -90,6 +95,36 @@ fn folded_paths_are_printed_first(rt: HostRuntime) {
         assert!(rt; is_printed_first(text, 4096, FOLDED), "of {text}");
     }
     assert!(rt; !is_printed_first("_RNvCu9bcher_kva3foox", 4096, FOLDED));
+}
+
+/// Returns whether all of a symbol's path is printed, if only so many bytes may be passed to the sink
+/// before the symbol is validated, and so many more after that.
+fn is_printed_within(symbol: &str, limit: usize, withheld: usize) -> bool {
+    if !symbol.is_ascii() {
+        return false;
+    }
+    let mut sink: ArraySink<4096> = ArraySink::new();
+    let mut out = SizeLimitedFmtAdapter::new(&mut sink, limit);
+    let looks = &mut RunLooks::new();
+    let first = FirstPrint {
+        form: PLAIN,
+        withheld,
+    };
+    matches!(
+        demangle_v0::demangle_printed(symbol, &mut out, first, looks),
+        Printed::Symbol(_, "")
+    )
+}
+
+#[test]
+fn valid_path_is_printed_with_what_was_withheld(rt: HostRuntime) {
+    // The name in Punycode uses up the fuel. The path has 14 bytes up to its end, and then 6.
+    let symbol = "_RINvC1a1bCu9bcher_kvaC3fooE";
+    for (withheld, is_wanted) in [(0usize, false), (5, false), (6, true), (usize::MAX, true)] {
+        assert_eq!(rt; is_printed_within(symbol, 14, withheld), is_wanted);
+    }
+    // This one is not validated before its end.
+    assert!(rt; !is_printed_within("_RINvC1a1bC6bucherC3fooE", 14, 6));
 }
 
 #[test]

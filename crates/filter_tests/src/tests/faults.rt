@@ -244,3 +244,28 @@ fn a_line_comes_in_ten_thousand_parts(rt: HostRuntime) -> Result<(), Fail> {
     assert!(rt; output.as_slice() == wanted.as_str().as_bytes());
     Ok(())
 }
+
+#[test]
+fn errors_have_their_kinds(rt: HostRuntime) -> Result<(), Fail> {
+    let alloc = rt.alloc();
+    let mut input: &[u8] = b"\xFF";
+    let mut output = Vec::new(alloc);
+    let result = demangle_stream(alloc, &mut input, &mut output, false);
+    assert_eq!(rt;
+        result.map_err(|error| error.kind()),
+        Err(ErrorKind::InvalidData)
+    );
+    assert_eq!(rt;
+        StreamFault::Memory.into_io().kind(),
+        ErrorKind::OutOfMemory
+    );
+    let mut input: &[u8] = b"_ZN1a3bcdE\n";
+    let mut bytes = [0; 4];
+    let mut room = bytes.as_mut_slice();
+    let result = demangle_stream(alloc, &mut input, &mut room, true);
+    assert_eq!(rt;
+        result.map_err(|error| error.kind()),
+        Err(ErrorKind::WriteZero)
+    );
+    Ok(())
+}
