@@ -5,7 +5,7 @@ usage: erase.py [--counts] REPOSITORY TARGET
 
 Reads crates.txt and crates/*/src/**/*.rt of REPOSITORY, and writes a cargo workspace to TARGET. Its
 packages are those of `PACKAGES`. A crate of the repository is a module of a package, so
-crates/demangle_v0/src/parser.rt becomes src/demangle_v0/parser.rs. The folder `template` next to
+crates/demangle_v0/src/printer.rt becomes src/demangle_v0/printer.rs. The folder `template` next to
 this file has the hand-written parts: the manifests, the public interface and tests. Its folder
 `support` has the parts that take the place of the kit's library. A package has those parts that
 its module `support` declares. The table of characters is crates/character_tables/stdout, which a
@@ -66,7 +66,7 @@ class Package(NamedTuple):
 # A package comes after the one below it.
 PACKAGES = (
     Package("kodliwe", ("rustc_demangle",), ("test_doubles", "demangle_vectors", "filter_tests"), has_features=True),
-    Package("kodliwe-cli", ("kodliwe", "demangle_filter"), ("test_doubles",), "kodliwe", "stream"),
+    Package("kodliwe-cli", ("kodliwe", "demangle_filter"), ("test_doubles", "kodliwe_tests"), "kodliwe", "stream"),
     Package("rustc-demangle"),
     Package("kodliwe-capi", ("demangle_c",), below="kodliwe"),
 )

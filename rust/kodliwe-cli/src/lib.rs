@@ -9,6 +9,9 @@ use std::process::ExitCode;
 
 mod demangle_filter;
 mod kodliwe;
+mod kodliwe_program;
+#[cfg(test)]
+mod kodliwe_tests;
 mod support;
 #[cfg(test)]
 mod test_doubles;

@@ -35,7 +35,7 @@
 //! - `std`, which is on by default, adds `WriteSink`. Without it the crate is `no_std`.
 //! - `stream`, which is off by default, adds `demangle_stream`, `demangle_bytes` and `BytesFilter`,
 //!   which filter a reader into a writer. They alone allocate: they buffer one line, or one symbol,
-//!   and `demangle_bytes` remembers the paths of symbols, in at most 4.5 MB.
+//!   and `demangle_bytes` remembers the paths of symbols, in at most 5.5 MB.
 //!
 //! # Where it comes from
 //!
@@ -51,7 +51,9 @@ mod demangle_legacy;
 mod demangle_sink;
 mod demangle_symbol;
 mod demangle_v0;
+mod demangle_v0_parser;
 mod demangle_v0_tokens;
+mod demangle_value;
 #[cfg(all(test, feature = "stream"))]
 mod demangle_vectors;
 #[cfg(all(test, feature = "stream"))]

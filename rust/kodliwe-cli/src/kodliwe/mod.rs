@@ -1,31 +1,14 @@
 // Made from crates/kodliwe/src/main.rt by packaging/crate/erase.py: edit that file instead.
 //! Copies texts with each Rust symbol demangled.
+use crate::kodliwe_program::descriptors::take_closed_streams;
+use crate::kodliwe_program::program::{Host, arguments_error, start};
+use crate::support::env;
 use crate::support::rt::AllocGlobal;
+use crate::support::rt::Env;
 use crate::support::rt::HostRuntime;
 use crate::support::string::String;
 use crate::support::vec::CollectIn;
 use crate::support::vec::Vec;
-mod about;
-mod arguments;
-mod coalescing;
-mod descriptors;
-mod embedded;
-mod error;
-mod filtering;
-mod help;
-mod inputs;
-mod noting;
-mod program;
-mod replacement;
-mod same_file;
-#[cfg(test)]
-mod tests;
-mod version;
-
-use crate::support::env;
-use crate::support::rt::Env;
-use descriptors::take_closed_streams;
-use program::{Host, arguments_error, start};
 use std::io;
 use std::io::Write;
 use std::process::ExitCode;

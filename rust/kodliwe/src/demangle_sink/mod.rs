@@ -13,7 +13,7 @@ mod write_sink;
 pub use array_sink::ArraySink;
 pub use chars::{put_char, put_chars};
 pub use fmt_sink::FmtSink;
-pub use limit::{SizeLimitedFmtAdapter, put_piece};
+pub use limit::{HeldText, Reread, SizeLimitedFmtAdapter, put_piece};
 pub use pieces::put_each;
 pub use slice_sink::SliceSink;
 #[cfg(feature = "std")]
@@ -36,4 +36,25 @@ pub trait TextSink {
 
     /// Returns `true` if the sink has rejected a piece.
     fn is_failed(&self) -> bool;
+
+    /// Returns `true` if the sink may take bytes again that it holds.
+    #[cfg_attr(not(debug_assertions), inline(always))]
+    fn can_copy(&self) -> bool {
+        false
+    }
+
+    /// Returns the number of bytes that the sink holds, or `None` if it can't take them again.
+    #[cfg_attr(not(debug_assertions), inline(always))]
+    fn held_len(&self) -> Option<usize> {
+        None
+    }
+
+    /// Takes `len` bytes again that the sink holds, from the byte `start` on. Returns `false`, and
+    /// changes nothing, if it can't.
+    #[cfg_attr(not(debug_assertions), inline(always))]
+    fn put_again(&mut self, start: usize, len: usize) -> bool {
+        // The default takes no bytes, wherever they are.
+        let _ = (start, len);
+        false
+    }
 }

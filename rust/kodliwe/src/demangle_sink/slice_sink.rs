@@ -119,6 +119,31 @@ impl<'b> TextSink for SliceSink<'b> {
         self.put_bytes(s.as_bytes())
     }
 
+    #[cfg_attr(not(debug_assertions), inline(always))]
+    fn can_copy(&self) -> bool {
+        true
+    }
+
+    #[cfg_attr(not(debug_assertions), inline(always))]
+    fn held_len(&self) -> Option<usize> {
+        if self.start > 0 || self.len > self.out.len() {
+            return None;
+        }
+        Some(self.len)
+    }
+
+    fn put_again(&mut self, start: usize, len: usize) -> bool {
+        let Some(place) = self.held_len() else {
+            return false;
+        };
+        if len > self.out.len() - place {
+            return false;
+        }
+        self.out.copy_within(start..start + len, place);
+        self.len = place + len;
+        true
+    }
+
     fn is_failed(&self) -> bool {
         self.failed
     }

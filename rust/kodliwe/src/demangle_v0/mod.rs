@@ -12,9 +12,11 @@ use crate::demangle_v0::validation::{begins_path, suffix_at};
 #[cfg(feature = "stream")]
 use crate::demangle_v0_tokens::source::Source;
 
-mod fuel;
-mod parser;
+mod held_texts;
 mod printer;
+mod reading;
+mod skip;
+mod stacks;
 mod validation;
 mod value;
 
@@ -89,17 +91,26 @@ pub enum Printed<'s> {
     Unknown,
 }
 
+/// How a path is printed before it is known whether the text is a symbol.
+#[cfg(feature = "stream")]
+#[derive(Clone, Copy)]
+pub struct FirstPrint {
+    pub form: Form,
+    /// How many more bytes may be passed to the sink after the text was validated.
+    pub withheld: usize,
+}
+
 /// Reads a v0 symbol and prints its first path: with hashes or without them, and with its generic
 /// arguments or with `_` for them. Returns what is known of the text then, which must be ASCII.
 ///
 /// If the path has few references, the text is read once. Otherwise, and after an error, the text
-/// is validated before the rest of the path is printed. A path that is nested deeply may be printed
-/// in part.
+/// is validated before the rest of the path is printed, and more bytes may be passed to the sink
+/// then. A path that is nested deeply may be printed in part.
 #[cfg(feature = "stream")]
 pub fn demangle_printed<'s, S: TextSink>(
     s: &'s str,
     out: &mut SizeLimitedFmtAdapter<'_, S>,
-    form: Form,
+    first: FirstPrint,
 ) -> Printed<'s> {
     let Some(inner) = ascii_inner_of(s, true) else {
         return Printed::NoSymbol;
@@ -110,9 +121,9 @@ pub fn demangle_printed<'s, S: TextSink>(
     }
     let source = Source {
         symbol: &symbol,
-        form,
+        form: first.form,
     };
-    match print_to_suffix(source, out) {
+    match print_to_suffix(source, out, first.withheld) {
         Attempt::Printed(end) => Printed::Symbol(Demangle::new(symbol), &inner[end..]),
         Attempt::Read(end) => Printed::Part(Demangle::new(symbol), &inner[end..]),
         Attempt::NoPath => Printed::NoSymbol,

@@ -2,164 +2,258 @@
 //! Prints the first path of a v0 symbol. Each step prints what it reads as soon as it is known.
 
 use crate::demangle_sink::{SinkRefused, SizeLimitedFmtAdapter, TextSink};
-#[cfg(feature = "stream")]
-use crate::demangle_v0::fuel::Fuel;
-use crate::demangle_v0::parser::Continuation;
-use crate::demangle_v0::parser::frames::{FULL_STACK, MIDDLE_STACK, UNUSED_FRAME};
-use crate::demangle_v0::parser::parse::Parser;
-use crate::demangle_v0::parser::skip::is_skipped;
-use crate::demangle_v0::parser::steps::Unfinished;
+use crate::demangle_v0::held_texts::{
+    MOST_TEXTS, PrintScope, StoredText, UNUSED_TEXT, end_note, run_target, start_note,
+};
+use crate::demangle_v0::skip::{finish_skip, may_skip, skip_for_fuel};
+use crate::demangle_v0::stacks::{FULL_STACK, MIDDLE_STACK};
 
-impl Parser<'_, '_> {
-    /// Prints until nothing is left or the stack is full. A parse with a budget also stops when its
-    /// fuel is used up. Returns what is left then.
-    ///
-    /// Fails at the first piece that the limit or the sink rejects.
-    // All prints share this loop. With two, the compiler would put the continuations into neither.
-    #[inline(never)]
-    fn print_steps<S: TextSink>(
-        &mut self,
-        out: &mut SizeLimitedFmtAdapter<'_, S>,
-        has_budget: bool,
-    ) -> Result<Option<Unfinished>, SinkRefused> {
-        let mut continuation = self.continuation;
-        while self.stack.has_room() {
-            if !self.fuel.pay_step(has_budget) {
-                self.continuation = continuation;
+use crate::demangle_v0_parser::Continuation;
+use crate::demangle_v0_parser::asides::is_aside;
+use crate::demangle_v0_parser::frames::UNUSED_FRAME;
+#[cfg(feature = "stream")]
+use crate::demangle_v0_parser::fuel::Fuel;
+use crate::demangle_v0_parser::parse::Parser;
+use crate::demangle_v0_parser::stops::Unfinished;
+use crate::demangle_v0_parser::targets::{is_target, unit_of};
+
+/// Prints until only the frames below the scope are left or the stack is full. A parse with a
+/// budget also stops when its fuel is used up, and one that notes at a target whose text the scope
+/// does not have. Returns what is left then.
+///
+/// Fails at the first piece that the limit or the sink rejects.
+// All prints share this loop. With two, the compiler would put the continuations into neither.
+#[inline(never)]
+fn print_above<S: TextSink>(
+    parser: &mut Parser<'_, '_>,
+    out: &mut SizeLimitedFmtAdapter<'_, S>,
+    has_budget: bool,
+    scope: PrintScope<'_>,
+) -> Result<Option<Unfinished>, SinkRefused> {
+    let mut continuation = parser.continuation;
+    while parser.stack.has_room() {
+        if !parser.fuel.pay_step(has_budget) {
+            parser.continuation = continuation;
+            return Ok(Some(Unfinished::Printing));
+        }
+        let Some(next) = parser.resume(scope.base, continuation) else {
+            parser.continuation = Continuation::End;
+            return Ok(None);
+        };
+        // An impl path only identifies the impl, and arguments may be folded. They are read and
+        // not printed.
+        if !is_aside(next, parser.source.form) {
+            continuation = parser.steps(next, true, out)?;
+        } else if is_target(next) {
+            parser.continuation = next;
+            let Some(following) = run_target(parser, out, scope) else {
+                return Ok(Some(Unfinished::Printing));
+            };
+            continuation = following;
+        } else {
+            parser.continuation = next;
+            if !may_skip(parser, has_budget) {
                 return Ok(Some(Unfinished::Printing));
             }
-            let Some(next) = self.resume(0, continuation) else {
-                self.continuation = Continuation::End;
-                return Ok(None);
-            };
-            // An impl path only identifies the impl, and arguments may be folded. They are read and
-            // not printed.
-            if is_skipped(next, self.source.form) {
-                self.continuation = next;
-                if !self.may_skip(has_budget) {
-                    return Ok(Some(Unfinished::Printing));
-                }
-                if let Some(left) = self.skip_for_fuel() {
-                    return Ok(Some(left));
-                }
-                continuation = self.continuation;
-            } else {
-                continuation = self.steps(next, true, out)?;
+            if let Some(left) = skip_for_fuel(parser) {
+                return Ok(Some(left));
             }
-        }
-        self.continuation = continuation;
-        Ok(Some(Unfinished::Printing))
-    }
-
-    /// Finishes a part that is not printed, if the parser is in one, and then prints as
-    /// `print_steps` does. Returns what is left if the stack is full.
-    ///
-    /// Fails at the first piece that the limit or the sink rejects.
-    fn print_unfinished<S: TextSink>(
-        &mut self,
-        left: Unfinished,
-        out: &mut SizeLimitedFmtAdapter<'_, S>,
-    ) -> Result<Option<Unfinished>, SinkRefused> {
-        if let Some(more) = self.finish_skip(left) {
-            return Ok(Some(more));
-        }
-        self.print_steps(out, false)
-    }
-
-    /// Prints all that is left in the largest stack, which has room for every frame.
-    ///
-    /// Fails at the first piece that the limit or the sink rejects.
-    #[inline(never)]
-    fn print_in_full_stack<S: TextSink>(
-        &mut self,
-        left: Unfinished,
-        out: &mut SizeLimitedFmtAdapter<'_, S>,
-    ) -> Result<(), SinkRefused> {
-        let mut memory = [UNUSED_FRAME; FULL_STACK];
-        let mut parser = self.in_larger_stack(&mut memory);
-        let printed = parser.print_unfinished(left, out);
-
-        printed?;
-        Ok(())
-    }
-
-    /// Prints all that is left in a larger stack. If that becomes full, the largest one takes over.
-    ///
-    /// Fails at the first piece that the limit or the sink rejects.
-    #[inline(never)]
-    fn print_in_middle_stack<S: TextSink>(
-        &mut self,
-        left: Unfinished,
-        out: &mut SizeLimitedFmtAdapter<'_, S>,
-    ) -> Result<(), SinkRefused> {
-        let mut memory = [UNUSED_FRAME; MIDDLE_STACK];
-        let mut parser = self.in_larger_stack(&mut memory);
-        parser.print_to_end(left, out)
-    }
-
-    /// Prints all that is left. If this stack becomes full, the largest one takes over.
-    ///
-    /// Fails at the first piece that the limit or the sink rejects.
-    #[cfg_attr(not(debug_assertions), inline(always))]
-    fn print_to_end<S: TextSink>(
-        &mut self,
-        left: Unfinished,
-        out: &mut SizeLimitedFmtAdapter<'_, S>,
-    ) -> Result<(), SinkRefused> {
-        match self.print_unfinished(left, out)? {
-            None => Ok(()),
-            Some(left) => self.print_in_full_stack(left, out),
+            continuation = parser.continuation;
         }
     }
+    parser.continuation = continuation;
+    Ok(Some(Unfinished::Printing))
+}
 
-    /// Prints until nothing is left, in larger stacks if this one is full.
-    ///
-    /// Fails at the first piece that the limit or the sink rejects.
-    #[cfg_attr(not(debug_assertions), inline(always))]
-    pub(crate) fn print_path<S: TextSink>(
-        &mut self,
-        out: &mut SizeLimitedFmtAdapter<'_, S>,
-    ) -> Result<(), SinkRefused> {
-        match self.print_steps(out, false)? {
-            None => Ok(()),
-            Some(left) => self.print_in_middle_stack(left, out),
+/// Prints the target that is next above the frames, and notes its text in `texts` if the sink holds
+/// it. Returns what is left if the parse stops before its end.
+///
+/// Fails at the first piece that the limit or the sink rejects.
+fn print_target<S: TextSink>(
+    parser: &mut Parser<'_, '_>,
+    out: &mut SizeLimitedFmtAdapter<'_, S>,
+    has_budget: bool,
+    texts: &mut [StoredText; MOST_TEXTS],
+) -> Result<Option<Unfinished>, SinkRefused> {
+    let note = start_note(parser, out);
+    parser.continuation = unit_of(parser.continuation);
+    let scope = PrintScope {
+        base: parser.stack.len(),
+        texts: &*texts,
+        notes: false,
+    };
+    if let Some(left) = print_above(parser, out, has_budget, scope)? {
+        return Ok(Some(left));
+    }
+    end_note(parser, &note, out, texts);
+    Ok(None)
+}
+
+/// Returns whether a print that left this stopped at a target.
+#[cfg_attr(not(debug_assertions), inline(always))]
+fn stops_at_target(parser: &Parser<'_, '_>, left: Option<Unfinished>) -> bool {
+    match left {
+        Some(Unfinished::Printing) => is_target(parser.continuation) && parser.stack.has_room(),
+        _ => false,
+    }
+}
+
+/// Prints on from a target, and notes the texts of targets. Returns what is left, as `print_steps`
+/// does.
+///
+/// Fails at the first piece that the limit or the sink rejects.
+#[inline(never)]
+fn print_noting<S: TextSink>(
+    parser: &mut Parser<'_, '_>,
+    out: &mut SizeLimitedFmtAdapter<'_, S>,
+    has_budget: bool,
+) -> Result<Option<Unfinished>, SinkRefused> {
+    let mut texts = [UNUSED_TEXT; MOST_TEXTS];
+    let mut left = Some(Unfinished::Printing);
+    while stops_at_target(parser, left) {
+        left = print_target(parser, out, has_budget, &mut texts)?;
+        if left.is_none() {
+            let scope = PrintScope {
+                base: 0,
+                texts: &texts,
+                notes: true,
+            };
+            left = print_above(parser, out, has_budget, scope)?;
         }
     }
+    Ok(left)
+}
 
-    /// Prints until nothing is left, the fuel is used up, or the stack is full. Returns what is left.
-    ///
-    /// Fails at the first piece that the limit or the sink rejects.
-    #[cfg(feature = "stream")]
-    #[cfg_attr(not(debug_assertions), inline(always))]
-    pub(crate) fn print_within<S: TextSink>(
-        &mut self,
-        out: &mut SizeLimitedFmtAdapter<'_, S>,
-    ) -> Result<Option<Unfinished>, SinkRefused> {
-        self.print_steps(out, true)
+/// Prints until nothing is left or the stack is full. A parse with a budget also stops when its
+/// fuel is used up. Returns what is left then.
+///
+/// Fails at the first piece that the limit or the sink rejects.
+fn print_steps<S: TextSink>(
+    parser: &mut Parser<'_, '_>,
+    out: &mut SizeLimitedFmtAdapter<'_, S>,
+    has_budget: bool,
+) -> Result<Option<Unfinished>, SinkRefused> {
+    // If the sink can't copy, the compiler drops all that follows a stop at a target.
+    let scope = PrintScope {
+        base: 0,
+        texts: &[],
+        notes: out.can_copy(),
+    };
+    let left = print_above(parser, out, has_budget, scope)?;
+    if scope.notes && stops_at_target(parser, left) {
+        return print_noting(parser, out, has_budget);
     }
+    Ok(left)
+}
 
-    /// Returns the place after a path that was printed within the budget. Returns `None` if anything
-    /// is left of it or no fuel is left, as after an error.
-    #[cfg(feature = "stream")]
-    #[cfg_attr(not(debug_assertions), inline(always))]
-    pub(crate) fn end_within(&self, left: Option<Unfinished>) -> Option<usize> {
-        match left {
-            None if self.fuel.left > 0 => self.place(),
-            _ => None,
-        }
+/// Finishes a part that is not printed, if the parser is in one, and then prints as
+/// `print_steps` does. Returns what is left if the stack is full.
+///
+/// Fails at the first piece that the limit or the sink rejects.
+fn print_unfinished<S: TextSink>(
+    parser: &mut Parser<'_, '_>,
+    left: Unfinished,
+    out: &mut SizeLimitedFmtAdapter<'_, S>,
+) -> Result<Option<Unfinished>, SinkRefused> {
+    if let Some(more) = finish_skip(parser, left) {
+        return Ok(Some(more));
     }
+    print_steps(parser, out, false)
+}
 
-    /// Prints what is left of a valid symbol, in larger stacks if this one is full.
-    ///
-    /// Fails at the first piece that the limit or the sink rejects.
-    #[cfg(feature = "stream")]
-    #[inline(never)]
-    pub(crate) fn print_validated<S: TextSink>(
-        &mut self,
-        out: &mut SizeLimitedFmtAdapter<'_, S>,
-    ) -> Result<(), SinkRefused> {
-        self.fuel = Fuel::none();
+/// Prints all that is left in the largest stack, which has room for every frame.
+///
+/// Fails at the first piece that the limit or the sink rejects.
+#[inline(never)]
+fn print_in_full_stack<S: TextSink>(
+    parser: &mut Parser<'_, '_>,
+    left: Unfinished,
+    out: &mut SizeLimitedFmtAdapter<'_, S>,
+) -> Result<(), SinkRefused> {
+    let mut memory = [UNUSED_FRAME; FULL_STACK];
+    let mut larger = parser.in_larger_stack(&mut memory);
+    let printed = print_unfinished(&mut larger, left, out);
 
-        self.print_path(out)
+    printed?;
+    Ok(())
+}
+
+/// Prints all that is left in a larger stack. If that becomes full, the largest one takes over.
+///
+/// Fails at the first piece that the limit or the sink rejects.
+#[inline(never)]
+fn print_in_middle_stack<S: TextSink>(
+    parser: &mut Parser<'_, '_>,
+    left: Unfinished,
+    out: &mut SizeLimitedFmtAdapter<'_, S>,
+) -> Result<(), SinkRefused> {
+    let mut memory = [UNUSED_FRAME; MIDDLE_STACK];
+    let mut larger = parser.in_larger_stack(&mut memory);
+    print_to_end(&mut larger, left, out)
+}
+
+/// Prints all that is left. If this stack becomes full, the largest one takes over.
+///
+/// Fails at the first piece that the limit or the sink rejects.
+#[cfg_attr(not(debug_assertions), inline(always))]
+fn print_to_end<S: TextSink>(
+    parser: &mut Parser<'_, '_>,
+    left: Unfinished,
+    out: &mut SizeLimitedFmtAdapter<'_, S>,
+) -> Result<(), SinkRefused> {
+    match print_unfinished(parser, left, out)? {
+        None => Ok(()),
+        Some(left) => print_in_full_stack(parser, left, out),
     }
+}
+
+/// Prints until nothing is left, in larger stacks if this one is full.
+///
+/// Fails at the first piece that the limit or the sink rejects.
+#[cfg_attr(not(debug_assertions), inline(always))]
+pub fn print_path<S: TextSink>(
+    parser: &mut Parser<'_, '_>,
+    out: &mut SizeLimitedFmtAdapter<'_, S>,
+) -> Result<(), SinkRefused> {
+    match print_steps(parser, out, false)? {
+        None => Ok(()),
+        Some(left) => print_in_middle_stack(parser, left, out),
+    }
+}
+
+/// Prints until nothing is left, the fuel is used up, or the stack is full. Returns what is left.
+///
+/// Fails at the first piece that the limit or the sink rejects.
+#[cfg(feature = "stream")]
+#[cfg_attr(not(debug_assertions), inline(always))]
+pub fn print_within<S: TextSink>(
+    parser: &mut Parser<'_, '_>,
+    out: &mut SizeLimitedFmtAdapter<'_, S>,
+) -> Result<Option<Unfinished>, SinkRefused> {
+    print_steps(parser, out, true)
+}
+
+/// Returns the place after a path that was printed within the budget. Returns `None` if anything
+/// is left of it or no fuel is left, as after an error.
+#[cfg(feature = "stream")]
+#[cfg_attr(not(debug_assertions), inline(always))]
+pub fn end_within(parser: &Parser<'_, '_>, left: Option<Unfinished>) -> Option<usize> {
+    match left {
+        None if parser.fuel.left > 0 => parser.place(),
+        _ => None,
+    }
+}
+
+/// Prints what is left of a valid symbol, in larger stacks if this one is full.
+///
+/// Fails at the first piece that the limit or the sink rejects.
+#[cfg(feature = "stream")]
+#[inline(never)]
+pub fn print_validated<S: TextSink>(
+    parser: &mut Parser<'_, '_>,
+    out: &mut SizeLimitedFmtAdapter<'_, S>,
+) -> Result<(), SinkRefused> {
+    parser.fuel = Fuel::none();
+
+    print_path(parser, out)
 }

@@ -2,82 +2,84 @@
 //! Validates v0 symbols: parses them without output, and finds the suffix.
 
 #[cfg(feature = "stream")]
-use crate::demangle_v0::fuel::Fuel;
-
-#[cfg(feature = "stream")]
 use crate::demangle_sink::{SizeLimitedFmtAdapter, TextSink};
 use crate::demangle_symbol::cursor::Symbol;
 use crate::demangle_symbol::form::Form;
-use crate::demangle_v0::parser::frames::{FULL_STACK, MIDDLE_STACK, SHORT_STACK, UNUSED_FRAME};
-use crate::demangle_v0::parser::parse::Parser;
-use crate::demangle_v0::parser::steps::ReadOutcome;
 #[cfg(feature = "stream")]
-use crate::demangle_v0::parser::steps::Unfinished;
+use crate::demangle_v0::printer::{end_within, print_validated, print_within};
+use crate::demangle_v0::reading::read_steps;
+use crate::demangle_v0::stacks::{FULL_STACK, MIDDLE_STACK, SHORT_STACK};
+
+use crate::demangle_v0_parser::frames::UNUSED_FRAME;
+#[cfg(feature = "stream")]
+use crate::demangle_v0_parser::fuel::Fuel;
+use crate::demangle_v0_parser::parse::Parser;
+use crate::demangle_v0_parser::stops::ReadOutcome;
+#[cfg(feature = "stream")]
+use crate::demangle_v0_parser::stops::Unfinished;
 use crate::demangle_v0_tokens::source::Source;
 
-impl Parser<'_, '_> {
-    /// Reads the rest in a stack with room for every frame. Returns the place after it, or `None`
-    /// after an error.
-    #[inline(never)]
-    fn read_in_full_stack(&mut self) -> Option<usize> {
-        let mut memory = [UNUSED_FRAME; FULL_STACK];
-        let mut parser = self.in_larger_stack(&mut memory);
-        let outcome = parser.read_steps(0);
-        let end = parser.place();
+/// Reads the rest in a stack with room for every frame. Returns the place after it, or `None`
+/// after an error.
+#[inline(never)]
+fn read_in_full_stack(parser: &mut Parser<'_, '_>) -> Option<usize> {
+    let mut memory = [UNUSED_FRAME; FULL_STACK];
+    let mut larger = parser.in_larger_stack(&mut memory);
+    let outcome = read_steps(&mut larger, 0);
+    let end = larger.place();
 
-        match outcome {
-            ReadOutcome::Complete => end,
-            // A stack with room for every frame is never full.
-            ReadOutcome::StackFull | ReadOutcome::Failed => None,
+    match outcome {
+        ReadOutcome::Complete => end,
+        // A stack with room for every frame is never full.
+        ReadOutcome::StackFull | ReadOutcome::Failed => None,
+    }
+}
+
+/// Reads the rest, in the largest stack if this one is full. Returns the place after it, or
+/// `None` after an error.
+#[cfg_attr(not(debug_assertions), inline(always))]
+fn read_to_end(parser: &mut Parser<'_, '_>) -> Option<usize> {
+    match read_steps(parser, 0) {
+        ReadOutcome::Complete => parser.place(),
+        ReadOutcome::StackFull => read_in_full_stack(parser),
+        ReadOutcome::Failed => None,
+    }
+}
+
+/// Reads the rest in a larger stack, and if that is full too, in the largest. Returns the place
+/// after it, or `None` after an error.
+#[inline(never)]
+fn read_in_middle_stack(parser: &mut Parser<'_, '_>) -> Option<usize> {
+    let mut memory = [UNUSED_FRAME; MIDDLE_STACK];
+    let mut larger = parser.in_larger_stack(&mut memory);
+    read_to_end(&mut larger)
+}
+
+/// Reads the path at a place, with no frames on the stack. Returns the place after it, and then
+/// leaves no frames. Returns `None` after an error.
+fn path_end(parser: &mut Parser<'_, '_>, place: usize) -> Option<usize> {
+    parser.start_path(place);
+    match read_steps(parser, 0) {
+        ReadOutcome::Complete => parser.place(),
+        ReadOutcome::StackFull => {
+            let end = read_in_middle_stack(parser);
+            parser.stack.truncate(0);
+            end
         }
+        ReadOutcome::Failed => None,
     }
+}
 
-    /// Reads the rest, in the largest stack if this one is full. Returns the place after it, or
-    /// `None` after an error.
-    #[cfg_attr(not(debug_assertions), inline(always))]
-    fn read_to_end(&mut self) -> Option<usize> {
-        match self.read_steps(0) {
-            ReadOutcome::Complete => self.place(),
-            ReadOutcome::StackFull => self.read_in_full_stack(),
-            ReadOutcome::Failed => None,
-        }
+/// Reads one path or two. Returns the place of the suffix after them, or `None` after an
+/// error.
+fn suffix(parser: &mut Parser<'_, '_>) -> Option<usize> {
+    let end = path_end(parser, 0)?;
+    // A second path names the crate in which a generic was instantiated. It is read, so that
+    // the suffix begins after it, and never printed.
+    if begins_path(parser.source.symbol, end) {
+        return path_end(parser, end);
     }
-
-    /// Reads the rest in a larger stack, and if that is full too, in the largest. Returns the place
-    /// after it, or `None` after an error.
-    #[inline(never)]
-    fn read_in_middle_stack(&mut self) -> Option<usize> {
-        let mut memory = [UNUSED_FRAME; MIDDLE_STACK];
-        let mut parser = self.in_larger_stack(&mut memory);
-        parser.read_to_end()
-    }
-
-    /// Reads the path at a place, with no frames on the stack. Returns the place after it, and then
-    /// leaves no frames. Returns `None` after an error.
-    fn path_end(&mut self, place: usize) -> Option<usize> {
-        self.start_path(place);
-        match self.read_steps(0) {
-            ReadOutcome::Complete => self.place(),
-            ReadOutcome::StackFull => {
-                let end = self.read_in_middle_stack();
-                self.stack.truncate(0);
-                end
-            }
-            ReadOutcome::Failed => None,
-        }
-    }
-
-    /// Reads one path or two. Returns the place of the suffix after them, or `None` after an
-    /// error.
-    fn suffix(&mut self) -> Option<usize> {
-        let end = self.path_end(0)?;
-        // A second path names the crate in which a generic was instantiated. It is read, so that
-        // the suffix begins after it, and never printed.
-        if begins_path(self.source.symbol, end) {
-            return self.path_end(end);
-        }
-        Some(end)
-    }
+    Some(end)
 }
 
 /// Returns the place of the suffix after one path or two, or `None` if they have an error.
@@ -92,7 +94,7 @@ pub fn suffix_at(symbol: &Symbol<'_>) -> Option<usize> {
     };
     let mut memory = [UNUSED_FRAME; SHORT_STACK];
     let mut parser = Parser::at_path(source, 0, &mut memory);
-    parser.suffix()
+    suffix(&mut parser)
 }
 
 /// Returns `true` if a path begins at a place.
@@ -130,7 +132,7 @@ fn after_first_path(parser: &mut Parser<'_, '_>, end: usize) -> Attempt {
     // Arguments are folded only when they are printed.
     parser.source.form.fold_arguments = false;
     parser.stack.truncate(0);
-    match parser.path_end(end) {
+    match path_end(parser, end) {
         Some(end) => Attempt::Printed(end),
         None => Attempt::NoPath,
     }
@@ -142,11 +144,12 @@ fn after_first_path(parser: &mut Parser<'_, '_>, end: usize) -> Attempt {
 fn printed_first<S: TextSink>(
     parser: &mut Parser<'_, '_>,
     out: &mut SizeLimitedFmtAdapter<'_, S>,
+    withheld: usize,
 ) -> Attempt {
-    let Ok(left) = parser.print_within(out) else {
+    let Ok(left) = print_within(parser, out) else {
         return Attempt::Unknown;
     };
-    if let Some(end) = parser.end_within(left) {
+    if let Some(end) = end_within(parser, left) {
         return after_first_path(parser, end);
     }
     let Some(end) = suffix_at(parser.source.symbol) else {
@@ -157,7 +160,10 @@ fn printed_first<S: TextSink>(
     }
     let is_printed = match left {
         None => true,
-        Some(Unfinished::Printing) => parser.print_validated(out).is_ok(),
+        Some(Unfinished::Printing) => {
+            out.allow_more(withheld);
+            print_validated(parser, out).is_ok()
+        }
         Some(Unfinished::Skipping(_, _)) => false,
     };
     if is_printed {
@@ -171,14 +177,16 @@ fn printed_first<S: TextSink>(
 /// then.
 ///
 /// The path is printed before it is known whether the symbol is valid, until the fuel is used up.
-/// Then the symbol is validated, and only the rest of a valid one is printed.
+/// Then the symbol is validated, and only the rest of a valid one is printed, with `withheld` more
+/// bytes.
 #[cfg(feature = "stream")]
 pub fn print_to_suffix<S: TextSink>(
     source: Source<'_>,
     out: &mut SizeLimitedFmtAdapter<'_, S>,
+    withheld: usize,
 ) -> Attempt {
     let mut memory = [UNUSED_FRAME; SHORT_STACK];
     let mut parser = Parser::at_path(source, 0, &mut memory);
     parser.fuel = Fuel::for_run(source.symbol.len());
-    printed_first(&mut parser, out)
+    printed_first(&mut parser, out, withheld)
 }

@@ -4,8 +4,10 @@
 use crate::demangle_sink::{SinkRefused, SizeLimitedFmtAdapter, TextSink};
 use crate::demangle_symbol::cursor::Symbol;
 use crate::demangle_symbol::form::Form;
-use crate::demangle_v0::parser::frames::{SHORT_STACK, UNUSED_FRAME};
-use crate::demangle_v0::parser::parse::Parser;
+use crate::demangle_v0::printer::print_path;
+use crate::demangle_v0::stacks::SHORT_STACK;
+use crate::demangle_v0_parser::frames::UNUSED_FRAME;
+use crate::demangle_v0_parser::parse::Parser;
 use crate::demangle_v0_tokens::source::Source;
 
 /// A v0 symbol that was read: the bytes after its prefix, with the suffix.
@@ -36,6 +38,6 @@ impl<'s> Demangle<'s> {
         };
         let mut memory = [UNUSED_FRAME; SHORT_STACK];
         let mut parser = Parser::at_path(source, 0, &mut memory);
-        parser.print_path(out)
+        print_path(&mut parser, out)
     }
 }

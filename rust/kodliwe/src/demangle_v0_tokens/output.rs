@@ -13,6 +13,9 @@ pub trait Output {
     /// Returns `true` if tokens are printed.
     fn is_printing(&self) -> bool;
 
+    /// Returns `true` if the text of the target that is next is looked up, to be put again.
+    fn looks_up(&self) -> bool;
+
     /// Prints a token, piece by piece.
     ///
     /// # Errors
@@ -49,6 +52,11 @@ impl Output for NoOutput {
     }
 
     #[cfg_attr(not(debug_assertions), inline(always))]
+    fn looks_up(&self) -> bool {
+        false
+    }
+
+    #[cfg_attr(not(debug_assertions), inline(always))]
     fn emit(&mut self, _source: &Source<'_>, _token: &Token) -> Result<(), SinkRefused> {
         Ok(())
     }
@@ -71,6 +79,11 @@ impl<'s, S: TextSink> Output for SizeLimitedFmtAdapter<'s, S> {
     #[cfg_attr(not(debug_assertions), inline(always))]
     fn is_printing(&self) -> bool {
         true
+    }
+
+    #[cfg_attr(not(debug_assertions), inline(always))]
+    fn looks_up(&self) -> bool {
+        SizeLimitedFmtAdapter::looks_up(self)
     }
 
     #[cfg_attr(not(debug_assertions), inline(always))]

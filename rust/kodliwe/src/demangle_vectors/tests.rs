@@ -23,6 +23,7 @@ mod names;
 mod pieces;
 mod primitives;
 mod refused;
+mod repeated_references;
 mod reread;
 mod sinks;
 mod v0_constants;

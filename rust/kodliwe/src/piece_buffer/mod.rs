@@ -1,6 +1,10 @@
 // Made from crates/piece_buffer/src/lib.rt by packaging/crate/erase.py: edit that file instead.
 //! A buffer for bytes on their way to a writer, which makes pieces of a few bytes cheap.
 
+mod growing;
+
+pub use growing::GrowingBuffer;
+
 /// The most bytes that the buffer holds. They are on the stack.
 pub const CAPACITY: usize = 2048;
 
@@ -51,6 +55,11 @@ impl PieceBuffer {
         &self.bytes[..self.len]
     }
 
+    /// Returns the number of buffered bytes.
+    pub fn len(&self) -> usize {
+        self.len
+    }
+
     /// Returns `true` if no bytes are buffered.
     pub fn is_empty(&self) -> bool {
         self.len == 0
@@ -66,6 +75,17 @@ impl PieceBuffer {
         }
         self.len = end;
         copy(piece, &mut self.bytes[start..]);
+        true
+    }
+
+    /// Appends `len` of the buffered bytes again, from the byte `start` on. If there is no room for
+    /// them, returns `false` and changes nothing.
+    pub fn push_again(&mut self, start: usize, len: usize) -> bool {
+        if len > CAPACITY - self.len {
+            return false;
+        }
+        self.bytes.copy_within(start..start + len, self.len);
+        self.len += len;
         true
     }
 

@@ -3,9 +3,10 @@
 
 use crate::demangle_sink::{SinkRefused, SliceSink};
 use crate::rustc_demangle::byte_before::ByteBefore;
-use crate::rustc_demangle::format::{Format, SizeLimit, unfolded_form};
 use crate::rustc_demangle::runs::{run_len, run_start, run_text};
 use crate::rustc_demangle::text::put_run;
+
+use crate::demangle_value::format::{Format, SizeLimit, unfolded_form};
 
 impl ByteBefore {
     /// Writes the replacement of a candidate that follows this. Fails if the sink fails.

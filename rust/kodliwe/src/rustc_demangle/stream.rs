@@ -74,8 +74,8 @@ fn copy_lines<R: BufRead, W: Write, A: Allocator>(
 ///
 /// Fails if the reader or the writer returns an error, if a line is not UTF-8, or if memory for the
 /// line can't be allocated.
-pub fn demangle_stream_named<R: BufRead, W: Write>(
-    alloc: Global,
+pub fn demangle_stream_named<R: BufRead, W: Write, A: Allocator>(
+    alloc: A,
     input: &mut R,
     output: &mut W,
     include_hash: bool,

@@ -2,9 +2,10 @@
 //! Demangles the symbols of a text in memory.
 
 use crate::demangle_sink::{SinkRefused, TextSink, put_piece};
-use crate::rustc_demangle::format::{Format, MAX_SIZE};
 use crate::rustc_demangle::runs::{run_len, run_start};
-use crate::rustc_demangle::value::Demangle;
+
+use crate::demangle_value::format::{Format, MAX_SIZE};
+use crate::demangle_value::value::Demangle;
 
 /// Writes the replacement of a run: the pieces of its symbol, or the run itself if it is not a
 /// symbol. Fails if the sink fails.

@@ -102,7 +102,7 @@ pub fn demangle_bytes_formatted<R: BufRead, W: Write>(
 
 /// A filter of any bytes that runs step by step, for readers that pause.
 ///
-/// It remembers the paths of symbols, in at most 4.5 MB, so a repeated symbol costs little. It
+/// It remembers the paths of symbols, in at most 5.5 MB, so a repeated symbol costs little. It
 /// allocates nothing for that before a symbol is long enough to be remembered.
 ///
 /// ```

@@ -1,5 +1,5 @@
-//! Counts the writes of a `BytesFilter`, and shows what it remembers. A text that it remembers is
-//! written from the heap, and any other from the filter itself or from the stack of its calls.
+//! Counts the writes of a `BytesFilter`, and shows what it remembers. A text that it prints is written
+//! from the start of one buffer, and a text that it remembers from a place of its own on the heap.
 #![cfg(feature = "stream")]
 use kodliwe::{BytesFilter, Format, StreamFault};
 use std::io::{self, ErrorKind, Write};
@@ -49,6 +49,44 @@ struct Written {
     is_remembered: bool,
 }
 
+/// A symbol that is printed first of all, and its path.
+const FIRST: &str = "_ZN5first17h05af221e174051e9E";
+const FIRST_PATH: &str = "first";
+
+/// A filter, and the address of the buffer into which it prints a text of up to 4,096 bytes.
+struct Watched {
+    filter: BytesFilter,
+    buffer: usize,
+}
+
+impl Watched {
+    /// Returns a filter that printed `FIRST`.
+    fn new() -> Watched {
+        Watched::with_format(Format::new())
+    }
+
+    /// Returns a filter that printed `FIRST` in this format.
+    fn with_format(format: Format) -> Watched {
+        let mut watched = Watched {
+            filter: BytesFilter::with_format(format),
+            buffer: 0,
+        };
+        watched.buffer = watched.write(FIRST, FIRST_PATH).first;
+        watched
+    }
+
+    /// Filters a symbol and the line feed after it, and asserts the output.
+    fn write(&mut self, symbol: &str, path: &str) -> Counted {
+        let text = format!("{symbol}\n");
+        let (mut input, mut output) = (text.as_bytes(), Counted::default());
+        while !input.is_empty() {
+            assert!(self.filter.step(&mut input, &mut output).unwrap());
+        }
+        assert_eq!(output.bytes, format!("{path}\n").into_bytes(), "{symbol}");
+        output
+    }
+}
+
 const PRINTED: Written = Written {
     writes: 1,
     is_remembered: false,
@@ -60,26 +98,24 @@ const REMEMBERED: Written = Written {
 };
 
 /// Filters a symbol and the line feed after it. Returns how the symbol was written.
-fn written(filter: &mut BytesFilter, symbol: &str, path: &str) -> Written {
-    let text = format!("{symbol}\n");
-    let (mut input, mut output) = (text.as_bytes(), Counted::default());
-    while !input.is_empty() {
-        assert!(filter.step(&mut input, &mut output).unwrap());
-    }
-    assert_eq!(output.bytes, format!("{path}\n").into_bytes(), "{symbol}");
-    let (here, its_start) = (&raw const text as usize, &raw const *filter as usize);
+fn written(watched: &mut Watched, symbol: &str, path: &str) -> Written {
+    let output = watched.write(symbol, path);
+    let (here, its_start) = (&raw const output as usize, &raw const *watched as usize);
     // The calls are less deep than this. The heap may begin directly after the stack.
     let stack = here - (1 << 16)..here;
-    let its_bytes = its_start..its_start + size_of::<BytesFilter>();
+    let its_bytes = its_start..its_start + size_of::<Watched>();
+    let is_printed = stack.contains(&output.first)
+        || its_bytes.contains(&output.first)
+        || output.first == watched.buffer;
     Written {
         // One more is for the line feed.
         writes: output.writes - 1,
-        is_remembered: !stack.contains(&output.first) && !its_bytes.contains(&output.first),
+        is_remembered: !is_printed,
     }
 }
 
 /// Filters legacy symbols that come once.
-fn filter_new(filter: &mut BytesFilter, numbers: std::ops::Range<u64>) {
+fn filter_new(filter: &mut Watched, numbers: std::ops::Range<u64>) {
     for number in numbers {
         written(filter, &format!("_ZN4once17h{number:016x}E"), "once");
     }
@@ -87,7 +123,7 @@ fn filter_new(filter: &mut BytesFilter, numbers: std::ops::Range<u64>) {
 
 #[test]
 fn a_repeated_symbol_is_one_write() {
-    let mut filter = BytesFilter::new(false);
+    let mut filter = Watched::new();
     for (symbol, path) in [(MANY, MANY_PATH), (LEGACY, LEGACY_PATH)] {
         for wanted in [PRINTED, PRINTED, REMEMBERED, REMEMBERED] {
             assert_eq!(written(&mut filter, symbol, path), wanted);
@@ -97,7 +133,7 @@ fn a_repeated_symbol_is_one_write() {
 
 #[test]
 fn a_legacy_symbol_with_a_hash_is_one_write() {
-    let mut filter = BytesFilter::new(false);
+    let mut filter = Watched::new();
     for _ in 0..3 {
         assert_eq!(written(&mut filter, LEGACY, LEGACY_PATH).writes, 1);
     }
@@ -140,36 +176,76 @@ fn a_v0_symbol_is_one_write() {
     for (symbol, path, folded) in rows {
         for (fold_arguments, path) in [(false, path), (true, folded)] {
             let format = Format::new().with_folded_arguments(fold_arguments);
-            let mut filter = BytesFilter::with_format(format);
+            let mut filter = Watched::with_format(format);
             for _ in 0..3 {
                 assert_eq!(written(&mut filter, symbol, path).writes, 1, "{symbol}");
             }
         }
     }
     // Each piece of a longer symbol is a write.
-    let mut filter = BytesFilter::new(false);
+    let mut filter = Watched::new();
     for _ in 0..3 {
         assert_eq!(written(&mut filter, &longer, "a::b").writes, 3);
     }
 }
 
+/// Returns a symbol whose path has a name of `len` letters `times` times, and the path.
+fn named_often(len: usize, times: usize) -> (String, String) {
+    let name = "x".repeat(len);
+    let symbol = format!("_RIC2abC{len}{name}{}E", "B4_".repeat(times - 1));
+    let path = format!("ab::<{}>", vec![name; times].join(", "));
+    (symbol, path)
+}
+
 #[test]
-fn a_text_of_up_to_2048_bytes_is_one_write() {
-    for (len, wanted) in [(1_019, 1..2), (1_020, 1..2), (1_021, 2..8)] {
-        let name = "x".repeat(len);
-        let path = format!("ab::<{name}, {name}>");
+fn a_text_of_up_to_2048_bytes_is_remembered() {
+    for (len, is_remembered) in [(1_019, true), (1_020, true), (1_021, false)] {
+        let (symbol, path) = named_often(len, 2);
         assert_eq!(path.len(), 2 * len + 8);
-        let mut filter = BytesFilter::new(false);
+        let mut filter = Watched::new();
+        for is_remembered in [false, false, is_remembered, is_remembered] {
+            let wanted = Written {
+                writes: 1,
+                is_remembered,
+            };
+            assert_eq!(written(&mut filter, &symbol, &path), wanted, "{len}");
+        }
+    }
+}
+
+#[test]
+fn a_text_of_any_length_is_one_write() {
+    for times in [2, 3, 4, 5, 8, 9, 30, 100, 330] {
+        let (symbol, path) = named_often(1_020, times);
+        assert!(symbol.len() <= 2_048);
+        let mut filter = Watched::new();
+        // The buffer grows, and holds the same text again.
         for _ in 0..4 {
-            let found = written(&mut filter, &format!("_RIC2abC{len}{name}B4_E"), &path);
-            assert!(wanted.contains(&found.writes), "{len}: {found:?}");
+            assert_eq!(written(&mut filter, &symbol, &path).writes, 1, "{times}");
+        }
+        // A short text after it is no longer.
+        for _ in 0..4 {
+            assert_eq!(written(&mut filter, LEGACY, LEGACY_PATH).writes, 1);
+        }
+    }
+}
+
+#[test]
+fn a_long_text_with_a_limit_over_a_million_is_written_in_parts() {
+    let format = Format::new().with_limit(1_000_001);
+    for (times, wanted) in [(2, 1..2), (3, 2..8)] {
+        let (symbol, path) = named_often(1_020, times);
+        let mut filter = Watched::with_format(format);
+        for _ in 0..4 {
+            let writes = written(&mut filter, &symbol, &path).writes;
+            assert!(wanted.contains(&writes), "{times}: {writes}");
         }
     }
 }
 
 #[test]
 fn a_symbol_after_a_run_that_is_none_is_one_write() {
-    let mut filter = BytesFilter::new(false);
+    let mut filter = Watched::new();
     let damaged = "_RINvC5crate8functionmmmmmmmmmmmmmmmmmmm";
     written(&mut filter, damaged, damaged);
     let path = "crate::functions";
@@ -190,13 +266,14 @@ fn a_filter_reads_another_input_after_its_end() {
 
 #[test]
 fn a_filter_remembers_nothing_for_a_while_if_symbols_come_once() {
-    let mut filter = BytesFilter::new(false);
-    filter_new(&mut filter, 0..4_096);
+    let mut filter = Watched::new();
+    // Each symbol that comes first adds one to a count, and so does the one of the new filter.
+    filter_new(&mut filter, 0..4_095);
     for _ in 0..3 {
         assert_eq!(written(&mut filter, MANY, MANY_PATH), PRINTED);
     }
     // It starts again after 32,768 runs.
-    filter_new(&mut filter, 4_096..4_096 + 32_765);
+    filter_new(&mut filter, 4_095..4_095 + 32_765);
     for wanted in [PRINTED, PRINTED, REMEMBERED] {
         assert_eq!(written(&mut filter, MANY, MANY_PATH), wanted);
     }
@@ -204,7 +281,7 @@ fn a_filter_remembers_nothing_for_a_while_if_symbols_come_once() {
 
 /// Filters one repeated symbol among others that come once. Returns how often it was remembered.
 fn remembered_of(turns: u64, others: u64) -> u64 {
-    let mut filter = BytesFilter::new(false);
+    let mut filter = Watched::new();
     let mut remembered = 0;
     for turn in 0..turns {
         filter_new(&mut filter, turn * others..(turn + 1) * others);

@@ -5,7 +5,7 @@ use crate::support::rt::HostRuntime;
 use crate::support::string::String;
 
 use crate::demangle_symbol::form::Form;
-use crate::demangle_v0::Printed;
+use crate::demangle_v0::{FirstPrint, Printed};
 use crate::support::alloc::{AllocError, Global};
 
 use crate::support::test::Fail;
@@ -29,8 +29,9 @@ fn is_printed_first(text: &str, limit: usize, form: Form) -> bool {
     let mut sink: ArraySink<4096> = ArraySink::new();
     let mut out = SizeLimitedFmtAdapter::new(&mut sink, limit);
 
+    let first = FirstPrint { form, withheld: 0 };
     matches!(
-        crate::demangle_v0::demangle_printed(text, &mut out, form,),
+        crate::demangle_v0::demangle_printed(text, &mut out, first,),
         Printed::Symbol(_, "x")
     )
 }
@@ -56,7 +57,11 @@ fn assert_prints_whole(symbol: &str, wanted: &str) {
     let mut sink: ArraySink<4096> = ArraySink::new();
     let mut out = SizeLimitedFmtAdapter::new(&mut sink, 4096);
 
-    let printed = crate::demangle_v0::demangle_printed(symbol, &mut out, PLAIN);
+    let first = FirstPrint {
+        form: PLAIN,
+        withheld: 0,
+    };
+    let printed = crate::demangle_v0::demangle_printed(symbol, &mut out, first);
     assert!(matches!(printed, Printed::Symbol(_, "")), "of {symbol}");
     assert_eq!(sink.as_str(), wanted, "of {symbol}");
 }
@@ -93,6 +98,36 @@ fn folded_paths_are_printed_first() {
         assert!(is_printed_first(text, 4096, FOLDED), "of {text}");
     }
     assert!(!is_printed_first("_RNvCu9bcher_kva3foox", 4096, FOLDED));
+}
+
+/// Returns whether all of a symbol's path is printed, if only so many bytes may be passed to the sink
+/// before the symbol is validated, and so many more after that.
+fn is_printed_within(symbol: &str, limit: usize, withheld: usize) -> bool {
+    if !symbol.is_ascii() {
+        return false;
+    }
+    let mut sink: ArraySink<4096> = ArraySink::new();
+    let mut out = SizeLimitedFmtAdapter::new(&mut sink, limit);
+
+    let first = FirstPrint {
+        form: PLAIN,
+        withheld,
+    };
+    matches!(
+        crate::demangle_v0::demangle_printed(symbol, &mut out, first,),
+        Printed::Symbol(_, "")
+    )
+}
+
+#[test]
+fn valid_path_is_printed_with_what_was_withheld() {
+    // The name in Punycode uses up the fuel. The path has 14 bytes up to its end, and then 6.
+    let symbol = "_RINvC1a1bCu9bcher_kvaC3fooE";
+    for (withheld, is_wanted) in [(0usize, false), (5, false), (6, true), (usize::MAX, true)] {
+        assert_eq!(is_printed_within(symbol, 14, withheld), is_wanted);
+    }
+    // This one is not validated before its end.
+    assert!(!is_printed_within("_RINvC1a1bC6bucherC3fooE", 14, 6));
 }
 
 #[test]

@@ -255,3 +255,26 @@ fn a_line_comes_in_ten_thousand_parts() -> Result<(), Fail> {
     assert!(output.as_slice() == wanted.as_str().as_bytes());
     Ok(())
 }
+
+#[test]
+fn errors_have_their_kinds() -> Result<(), Fail> {
+    let rt = HostRuntime;
+    let alloc = rt.alloc();
+    let mut input: &[u8] = b"\xFF";
+    let mut output = Vec::new(alloc);
+    let result = demangle_stream(alloc, &mut input, &mut output, false);
+    assert_eq!(
+        result.map_err(|error| error.kind()),
+        Err(ErrorKind::InvalidData)
+    );
+    assert_eq!(StreamFault::Memory.into_io().kind(), ErrorKind::OutOfMemory);
+    let mut input: &[u8] = b"_ZN1a3bcdE\n";
+    let mut bytes = [0; 4];
+    let mut room = bytes.as_mut_slice();
+    let result = demangle_stream(alloc, &mut input, &mut room, true);
+    assert_eq!(
+        result.map_err(|error| error.kind()),
+        Err(ErrorKind::WriteZero)
+    );
+    Ok(())
+}

@@ -8,7 +8,7 @@ use crate::support::vec::Vec;
 use std::io::ErrorKind;
 
 use crate::support::test::Fail;
-use crate::test_doubles::streams::{ChunkReader, FailingWriter};
+use crate::test_doubles::streams::{ChunkReader, FailingWriter, RecordingWriter};
 
 /// The number of times that each text is repeated.
 const TIMES: usize = 5;
@@ -187,10 +187,8 @@ fn tuple_of(alloc: Global, text: &[u8], times: usize) -> Result<Vec<u8>, AllocEr
     Ok(tuple)
 }
 
-#[test]
-fn a_long_text_is_written_whole_each_time() -> Result<(), Fail> {
-    let rt = HostRuntime;
-    let alloc = rt.alloc();
+/// Returns what `LONG` prints.
+fn long_text(alloc: Global) -> Result<Vec<u8>, AllocError> {
     let mut printed = Vec::from_slice(alloc, b"a::<")?;
     let mut tuple = tuple_of(alloc, b"u64", 16)?;
     printed.extend_from_slice(tuple.as_slice())?;
@@ -200,6 +198,14 @@ fn a_long_text_is_written_whole_each_time() -> Result<(), Fail> {
         printed.extend_from_slice(tuple.as_slice())?;
     }
     printed.extend_from_slice(b">")?;
+    Ok(printed)
+}
+
+#[test]
+fn a_long_text_is_written_whole_each_time() -> Result<(), Fail> {
+    let rt = HostRuntime;
+    let alloc = rt.alloc();
+    let printed = long_text(alloc)?;
     let text = repeated(alloc, LONG)?;
     let wanted = repeated(alloc, printed.as_slice())?;
     let case = Case {
@@ -210,6 +216,27 @@ fn a_long_text_is_written_whole_each_time() -> Result<(), Fail> {
     };
     for size in [1, 64, 4_096] {
         case.assert_written(alloc, size)?;
+    }
+    Ok(())
+}
+
+#[test]
+fn a_long_text_is_one_write() -> Result<(), Fail> {
+    let rt = HostRuntime;
+    let alloc = rt.alloc();
+    let printed = long_text(alloc)?;
+    let text = repeated(alloc, LONG)?;
+    let mut input = text.as_slice();
+    let mut output = RecordingWriter::new(alloc);
+    let result = demangle_bytes_limited(alloc, &mut input, &mut output, true, 1_000_000);
+    result.map_err(|fault| fault.into_io())?;
+    assert_eq!(output.writes().len(), 2 * TIMES);
+    for pair in output.writes().chunks_exact(2) {
+        let [path, after] = pair else {
+            return Err("a line is two writes".into());
+        };
+        assert_eq!(path.as_slice(), printed.as_slice());
+        assert_eq!(after.as_slice(), b"\n".as_slice());
     }
     Ok(())
 }
@@ -230,8 +257,9 @@ fn a_long_text_is_noted() -> Result<(), Fail> {
             Err(fault) => return Err(fault.into_io().into()),
         }
     }
-    // The table of the symbols that came, and that of the ones whose texts are too long.
-    assert_eq!(memo.allocated(), 65_536);
+    // The table of the symbols that came, that of the ones whose texts are too long, and the buffer
+    // of the last text.
+    assert_eq!(memo.allocated(), 69_632);
     Ok(())
 }
 

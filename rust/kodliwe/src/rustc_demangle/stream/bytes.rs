@@ -2,12 +2,12 @@
 //! Demangles any bytes that come from a reader.
 
 use crate::rustc_demangle::byte_before::ByteBefore;
-use crate::rustc_demangle::format::{Format, SizeLimit, unfolded_form};
 use crate::rustc_demangle::stream::fault::{StreamFault, read_fault};
 use crate::rustc_demangle::stream::memo::SymbolMemo;
 use crate::rustc_demangle::stream::pending_run::Pending;
 use crate::support::vec::Vec;
 
+use crate::demangle_value::format::{Format, SizeLimit, unfolded_form};
 use crate::support::alloc::{Allocator, Global};
 use std::io;
 use std::io::{BufRead, Write};
@@ -70,9 +70,9 @@ impl<A: Allocator> BytesFilter<A> {
 ///
 /// The input is read in the reader's chunks and not by lines. The bytes of a chunk between two runs
 /// are one write. Memory holds the unfinished run at the end of the bytes so far, and a
-/// `SymbolMemo`. So a repeated symbol of 20 to 2,048 bytes is one write. So is a v0 symbol or a
-/// legacy symbol with a hash, if it has as many bytes and prints up to 2,048. If it prints more, it
-/// is written in parts. Each piece of another symbol is one write.
+/// `SymbolMemo`. So a v0 symbol of 20 to 2,048 bytes is one write, and so is such a legacy symbol
+/// with a hash. If it prints more than 2,048 bytes, it is written in parts if `limit` is over
+/// 1,000,000, or if memory for it can't be allocated. Each piece of another symbol is one write.
 ///
 /// # Errors
 ///

@@ -1,9 +1,6 @@
 // Made from crates/rustc_demangle/src/stream/credit.rt by packaging/crate/erase.py: edit that file instead.
 //! Whether the runs of a text are printed before they are known to be symbols.
 
-#[cfg(test)]
-mod tests;
-
 /// How many bytes of a run that was printed in vain cost one symbol.
 const BYTES_PER_SYMBOL: usize = 4;
 

@@ -2,11 +2,11 @@
 //! Writes lines and runs with their symbols demangled.
 
 use crate::demangle_sink::WriteSink;
-use crate::rustc_demangle::coalescing::write_at_once;
-use crate::rustc_demangle::format::Format;
 use crate::rustc_demangle::text::demangle_text;
-use crate::rustc_demangle::value::Demangle;
 
+use crate::demangle_value::coalescing::write_at_once;
+use crate::demangle_value::format::Format;
+use crate::demangle_value::value::Demangle;
 use std::io;
 use std::io::Write;
 
@@ -42,21 +42,19 @@ fn write_text<W: Write>(text: &str, output: &mut W) -> io::Result<()> {
     output.write_all(text.as_bytes())
 }
 
-impl Demangle<'_> {
-    /// Writes the replacement of a run that was read as this: the printed symbol, or the run itself
-    /// if it is not a symbol. Either is one call of the writer if it has up to 2,048 bytes. Fails
-    /// if the writer fails.
-    pub(super) fn write_read_at_once<W: Write>(
-        &self,
-        run: &str,
-        output: &mut W,
-        format: Format,
-    ) -> io::Result<()> {
-        if self.has_style() {
-            write_symbol_at_once(self, output, format)
-        } else {
-            write_text(run, output)
-        }
+/// Writes the replacement of a run that was read as this: the printed symbol, or the run itself if
+/// it is not a symbol. Either is one call of the writer if it has up to 2,048 bytes. Fails if the
+/// writer fails.
+fn write_read_at_once<W: Write>(
+    symbol: &Demangle<'_>,
+    run: &str,
+    output: &mut W,
+    format: Format,
+) -> io::Result<()> {
+    if symbol.has_style() {
+        write_symbol_at_once(symbol, output, format)
+    } else {
+        write_text(run, output)
     }
 }
 
@@ -67,7 +65,7 @@ pub(super) fn write_run_at_once<W: Write>(
     format: Format,
 ) -> io::Result<()> {
     let symbol = Demangle::read_run(run);
-    symbol.write_read_at_once(run, output, format)
+    write_read_at_once(&symbol, run, output, format)
 }
 
 /// Writes the replacement of a run: the printed symbol, with a write for each piece, or the run

@@ -1,19 +1,19 @@
 // Made from crates/rustc_demangle/src/stream/memo.rt by packaging/crate/erase.py: edit that file instead.
 //! Remembers the symbols that a filter printed.
 
-use crate::rustc_demangle::format::{Format, SizeLimit, unfolded_form};
 use crate::rustc_demangle::stream::buffer_sink::BufferSink;
 use crate::rustc_demangle::stream::credit::{Credit, starts_as_v0};
 use crate::rustc_demangle::stream::line_writer::{write_run, write_run_at_once};
-use crate::rustc_demangle::value::Demangle;
-use crate::rustc_demangle::value::printing::{Tried, print_legacy_run, print_v0_run};
 
-use crate::piece_buffer::PieceBuffer;
+use crate::demangle_value::format::{Format, MAX_SIZE, SizeLimit, unfolded_form};
+use crate::demangle_value::value::Demangle;
+use crate::demangle_value::value::printing::{Tried, print_legacy_run, print_v0_run};
+use crate::piece_buffer::GrowingBuffer;
 use crate::support::alloc::Global;
 use std::io;
 use std::io::Write;
 
-use crate::text_memo::{MAX_KEY, Noted, TextMemo, hash_of};
+use crate::text_memo::{MAX_KEY, MAX_TEXT, Noted, TextMemo, hash_of};
 
 /// A lookup that finds nothing adds one to the count, and one that finds a text subtracts this. So
 /// the count increases if fewer than one lookup in twenty finds a text.
@@ -71,16 +71,16 @@ impl Probe {
 /// printed first.
 struct Store {
     texts: TextMemo,
-    printed: PieceBuffer,
+    printed: GrowingBuffer,
     credit: Credit,
 }
 
 /// A memo of printed symbols, with which a filter does not parse a repeated symbol again.
 ///
-/// It belongs to one format, in which all its texts were printed. It allocates at most 4.5 MB of
-/// memory: 32 KB if no symbol repeats, and none if there are no symbols. A lookup compares at most
-/// two symbols. If memory can't be allocated, symbols are parsed as without a memo. The memo turns
-/// itself off for a while if few symbols repeat.
+/// It belongs to one format, in which all its texts were printed. It allocates at most 5.5 MB of
+/// memory, of which the last printed text uses at most 1,024,000 bytes. It allocates none if there
+/// are no symbols. A lookup compares at most two symbols. If memory can't be allocated, symbols are
+/// parsed as without a memo. The memo turns itself off for a while if few symbols repeat.
 pub struct SymbolMemo {
     alloc: Global,
     format: Format,
@@ -88,8 +88,8 @@ pub struct SymbolMemo {
     probe: Probe,
 }
 
-/// Prints a symbol into an empty buffer, or returns `false` if the buffer has no room for it.
-fn print_to_buffer(symbol: &Demangle<'_>, held: &mut PieceBuffer, format: Format) -> bool {
+/// Prints a symbol into an empty buffer, or returns `false` if the buffer can't hold it.
+fn print_to_buffer(symbol: &Demangle<'_>, held: &mut GrowingBuffer, format: Format) -> bool {
     let mut sink = BufferSink::new(held);
     symbol.write_formatted(&mut sink, format).is_ok()
 }
@@ -97,7 +97,7 @@ fn print_to_buffer(symbol: &Demangle<'_>, held: &mut PieceBuffer, format: Format
 /// Prints a run into the buffer before it is known to be a symbol. Returns what is known of it
 /// then. Unless it was printed, the buffer may have a part of it.
 #[cfg_attr(not(debug_assertions), inline(always))]
-fn print_first<'a>(run: &'a str, held: &mut PieceBuffer, format: Format) -> Tried<'a> {
+fn print_first<'a>(run: &'a str, held: &mut GrowingBuffer, format: Format) -> Tried<'a> {
     held.clear();
     let mut sink = BufferSink::new(held);
     if starts_as_v0(run.as_bytes()) {
@@ -117,8 +117,9 @@ enum Printed {
     Symbol,
     /// The run is not a symbol, and its text is the run.
     NoSymbol,
-    /// The text of the run is too long.
-    TooLong,
+    /// The buffer does not hold the text of the run. Memory could not be allocated, or the text may
+    /// be too long.
+    NotHeld,
 }
 
 /// Returns whether a run is looked up. It must start as a v0 symbol, or end with the hash of a
@@ -161,16 +162,20 @@ impl Store {
         Some(symbol)
     }
 
-    /// Prints into the buffer a run that was read.
-    fn print_read(&mut self, symbol: &Demangle<'_>, format: Format) -> Printed {
+    /// Prints into the buffer a run that was read. If the path may have over 1,000,000 bytes, it
+    /// prints nothing, so that nothing is printed in vain.
+    fn print_read(&mut self, symbol: &Demangle<'_>, run: &str, format: Format) -> Printed {
         if !symbol.has_style() {
             return Printed::NoSymbol;
+        }
+        if format.for_text(run.len()).limit > MAX_SIZE {
+            return Printed::NotHeld;
         }
         self.printed.clear();
         if print_to_buffer(symbol, &mut self.printed, format) {
             Printed::Symbol
         } else {
-            Printed::TooLong
+            Printed::NotHeld
         }
     }
 
@@ -178,22 +183,40 @@ impl Store {
     #[cfg_attr(not(debug_assertions), inline(always))]
     fn print_run(&mut self, run: &str, format: Format) -> Printed {
         match self.print_or_read(run, format) {
-            Some(symbol) => self.print_read(&symbol, format),
+            Some(symbol) => self.print_read(&symbol, run, format),
             None => Printed::Symbol,
         }
     }
 
-    /// Prints a run as `print_run` does, and remembers its text, or that it is too long.
+    /// Prints a run as `print_run` does, and remembers its text, or that it is too long for that.
     #[inline(never)]
     fn print_new(&mut self, run: &str, hash: u64, format: Format) -> Printed {
         let printed = self.print_run(run, format);
         let key = run.as_bytes();
         match printed {
+            Printed::Symbol if self.printed.len() > MAX_TEXT => self.texts.note_too_long(hash),
             Printed::Symbol => self.texts.insert(key, self.printed.as_slice(), hash),
             Printed::NoSymbol => self.texts.insert(key, key, hash),
-            Printed::TooLong => self.texts.note_too_long(hash),
+            Printed::NotHeld => self.texts.note_too_long(hash),
         }
         printed
+    }
+
+    /// Prints a run that is not in the memo, as `print_run` does. Its text is remembered if the run
+    /// came before. `hash` is the run's, or `None` if the memo is off.
+    #[cfg_attr(not(debug_assertions), inline(always))]
+    fn print_not_in_memo(&mut self, run: &str, hash: Option<u64>, format: Format) -> Printed {
+        let Some(hash) = hash else {
+            return self.print_run(run, format);
+        };
+        match self.texts.note(hash) {
+            Noted::New => self.print_run(run, format),
+            Noted::Again => self.print_new(run, hash, format),
+            Noted::TooLong => {
+                let symbol = Demangle::read_run(run);
+                self.print_read(&symbol, run, format)
+            }
+        }
     }
 }
 
@@ -213,7 +236,7 @@ impl SymbolMemo {
             format,
             store: Store {
                 texts: TextMemo::new(alloc),
-                printed: PieceBuffer::new(),
+                printed: GrowingBuffer::new(alloc),
                 credit: Credit::new(),
             },
             probe: Probe {
@@ -233,34 +256,26 @@ impl SymbolMemo {
         self.alloc
     }
 
-    /// Returns the number of bytes of memory that the memo has allocated, which is at most 4.5 MB.
+    /// Returns the number of bytes of memory that the memo has allocated, which is at most 5.5 MB.
     #[cfg(all(test, feature = "stream"))]
     pub fn allocated(&self) -> usize {
-        self.store.texts.allocated()
+        self.store.texts.allocated() + self.store.printed.allocated()
     }
 
-    /// Writes the text of a run that is not remembered. Fails if the writer fails.
+    /// Writes the text of a run that is not in the memo, by one call of the writer if the buffer
+    /// holds it. The text is remembered if the run came before. `hash` is the run's, or `None` if
+    /// the memo is off. Fails if the writer fails.
     #[cfg_attr(not(debug_assertions), inline(always))]
-    fn write_once<W: Write>(&mut self, run: &str, output: &mut W) -> io::Result<()> {
-        match self.store.print_or_read(run, self.format) {
-            Some(symbol) => symbol.write_read_at_once(run, output, self.format),
-            None => output.write_all(self.store.printed.as_slice()),
-        }
-    }
-
-    /// Writes the text of a run that is not in the memo. The text is remembered if the run came
-    /// before. Fails if the writer fails.
-    #[cfg_attr(not(debug_assertions), inline(always))]
-    fn write_new<W: Write>(&mut self, run: &str, hash: u64, output: &mut W) -> io::Result<()> {
-        match self.store.texts.note(hash) {
-            Noted::Again => {}
-            Noted::New => return self.write_once(run, output),
-            Noted::TooLong => return write_run_at_once(run, output, self.format),
-        }
-        match self.store.print_new(run, hash, self.format) {
+    fn write_new<W: Write>(
+        &mut self,
+        run: &str,
+        hash: Option<u64>,
+        output: &mut W,
+    ) -> io::Result<()> {
+        match self.store.print_not_in_memo(run, hash, self.format) {
             Printed::Symbol => output.write_all(self.store.printed.as_slice()),
             Printed::NoSymbol => output.write_all(run.as_bytes()),
-            Printed::TooLong => write_run_at_once(run, output, self.format),
+            Printed::NotHeld => write_run_at_once(run, output, self.format),
         }
     }
 
@@ -271,7 +286,7 @@ impl SymbolMemo {
             return write_run(run, output, self.format);
         }
         if !self.probe.is_on() {
-            return self.write_once(run, output);
+            return self.write_new(run, None, output);
         }
         let hash = hash_of(run.as_bytes());
         if let Some(text) = self.store.texts.get(run.as_bytes(), hash) {
@@ -279,6 +294,6 @@ impl SymbolMemo {
             return output.write_all(text);
         }
         self.probe.miss();
-        self.write_new(run, hash, output)
+        self.write_new(run, Some(hash), output)
     }
 }

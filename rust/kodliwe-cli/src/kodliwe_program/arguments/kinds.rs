@@ -1,0 +1,73 @@
+// Made from crates/kodliwe_program/src/arguments/kinds.rt by packaging/crate/erase.py: edit that file instead.
+//! Finds the kind of one argument.
+
+use crate::kodliwe_program::about::{About, Shell};
+use crate::kodliwe_program::arguments::{Argument, UsageError, ValuedOption};
+
+/// Returns whether an argument is the option `short` or `long`, and the value if the argument
+/// includes it, as `-iFILE` or `--input=FILE`.
+fn option_value<'a>(argument: &'a str, short: &str, long: &str) -> Option<Option<&'a str>> {
+    if argument == short || argument == long {
+        return Some(None);
+    }
+    if let Some(rest) = argument.strip_prefix(long) {
+        if let Some(value) = rest.strip_prefix("=") {
+            return Some(Some(value));
+        }
+    }
+    argument.strip_prefix(short).map(Some)
+}
+
+/// Returns the kind of an argument before `--`.
+pub(super) fn classify(argument: &str) -> Argument<'_> {
+    if !argument.starts_with("-") {
+        return Argument::Symbol;
+    }
+    if argument == "-" {
+        return Argument::Stdin;
+    }
+    if argument == "--" {
+        return Argument::End;
+    }
+    if argument == "--hash" {
+        return Argument::Hash;
+    }
+    if argument == "-f" || argument == "--fold" {
+        return Argument::Fold;
+    }
+    if argument == "-h" || argument == "--help" {
+        return Argument::Print(About::Help);
+    }
+    if argument == "-V" || argument == "--version" {
+        return Argument::Print(About::Version);
+    }
+    if argument == "--man" {
+        return Argument::Print(About::Manual);
+    }
+    if argument == "--completions" {
+        return Argument::Completions;
+    }
+    if let Some(name) = argument.strip_prefix("--completions=") {
+        return Argument::CompletionsOf(name);
+    }
+    if let Some(value) = option_value(argument, "-i", "--input") {
+        return Argument::Valued(ValuedOption::Input, value);
+    }
+    if let Some(value) = option_value(argument, "-o", "--output") {
+        return Argument::Valued(ValuedOption::Output, value);
+    }
+    if let Some(value) = option_value(argument, "-l", "--limit") {
+        return Argument::Valued(ValuedOption::Limit, value);
+    }
+    Argument::Unknown
+}
+
+/// Returns the shell of this name. Fails if there is none.
+pub(super) fn shell_of(name: &str) -> Result<Shell, UsageError<'_>> {
+    match name {
+        "bash" => Ok(Shell::Bash),
+        "zsh" => Ok(Shell::Zsh),
+        "fish" => Ok(Shell::Fish),
+        _ => Err(UsageError::BadShell(name)),
+    }
+}

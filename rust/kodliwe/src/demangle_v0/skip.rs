@@ -1,0 +1,105 @@
+// Made from crates/demangle_v0/src/skip.rt by packaging/crate/erase.py: edit that file instead.
+//! Parts that a printing parse reads and does not print: impl paths, and folded arguments.
+
+use crate::demangle_v0::reading::read_steps;
+use crate::demangle_v0_parser::fuel::{Fuel, fuel_after};
+use crate::demangle_v0_parser::parse::Parser;
+use crate::demangle_v0_parser::stops::{Checkpoint, ReadOutcome, Unfinished};
+use crate::demangle_v0_parser::{Continuation, State};
+
+/// Returns the continuation that reads a part that is not printed.
+#[cfg_attr(not(debug_assertions), inline(always))]
+fn skipped_continuation(continuation: Continuation) -> Continuation {
+    match continuation {
+        Continuation::InherentImplPath | Continuation::TraitImplPath => Continuation::Path,
+        other => other,
+    }
+}
+
+/// Returns the continuation after such a part.
+#[cfg_attr(not(debug_assertions), inline(always))]
+fn after_skip(continuation: Continuation) -> Continuation {
+    match continuation {
+        Continuation::InherentImplPath => Continuation::InherentSelfType,
+        Continuation::TraitImplPath => Continuation::TraitSelfType,
+        Continuation::FirstArgument => Continuation::FoldedArguments,
+        Continuation::FirstTraitArgument => Continuation::FoldedTraitArguments,
+        other => other,
+    }
+}
+
+/// Continues at a checkpoint, after the part there that is not printed. The part ends at
+/// `place`, or has a syntax error if that is `None`.
+#[cfg_attr(not(debug_assertions), inline(always))]
+fn continue_after(parser: &mut Parser<'_, '_>, printing: Checkpoint, place: Option<usize>) {
+    parser.continuation = after_skip(printing.continuation);
+    parser.state = State {
+        place,
+        ..printing.state
+    };
+}
+
+/// Reads the rest of a part that is not printed, if `left` is in one, and continues after it.
+/// Returns what is left to print if the stack is full before the part ends.
+// It is not inlined, so that the loop of printing stays small.
+#[inline(never)]
+pub fn finish_skip(parser: &mut Parser<'_, '_>, left: Unfinished) -> Option<Unfinished> {
+    let Unfinished::Skipping(base, printing) = left else {
+        return None;
+    };
+    match read_steps(parser, base) {
+        ReadOutcome::StackFull => Some(left),
+        ReadOutcome::Complete => {
+            let place = parser.state.place;
+            continue_after(parser, printing, place);
+            None
+        }
+        ReadOutcome::Failed => {
+            parser.stack.truncate(base);
+            continue_after(parser, printing, None);
+            None
+        }
+    }
+}
+
+/// Reads the impl path or the folded arguments at which the parser is, and continues after
+/// them. Returns what is left to print if the stack is full before they end.
+#[cfg_attr(not(debug_assertions), inline(always))]
+pub fn skip_part(parser: &mut Parser<'_, '_>) -> Option<Unfinished> {
+    let base = parser.stack.len();
+    let printing = Checkpoint {
+        continuation: parser.continuation,
+        state: parser.state,
+    };
+    parser.continuation = skipped_continuation(parser.continuation);
+    parser.state.in_value = false;
+    finish_skip(parser, Unfinished::Skipping(base, printing))
+}
+
+/// Returns whether a parse may read a part without output.
+#[cfg_attr(not(debug_assertions), inline(always))]
+pub fn may_skip(parser: &Parser<'_, '_>, has_budget: bool) -> bool {
+    if !has_budget {
+        return true;
+    }
+    match parser.place() {
+        Some(at) => at <= parser.source.symbol.len(),
+        None => false,
+    }
+}
+
+/// Reads the impl path or the folded arguments at which the parser is, continues after them,
+/// and uses up fuel for their bytes. Returns what is left to print if the stack is full before
+/// they end. Then no fuel is left, and neither is after an error.
+#[inline(never)]
+pub fn skip_for_fuel(parser: &mut Parser<'_, '_>) -> Option<Unfinished> {
+    let fuel = parser.fuel;
+    let start = parser.place();
+    if let Some(left) = skip_part(parser) {
+        parser.fuel.use_up();
+        return Some(left);
+    }
+    let left = fuel_after(fuel.left, start, parser.place());
+    parser.fuel = Fuel { left, ..fuel };
+    None
+}
