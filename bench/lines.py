@@ -2,10 +2,11 @@
 """Counts the instructions that kodliwe and the other demanglers of this machine take for a line of text.
 
 It prints a Markdown table with a row for each text and a column for each program. `valgrind --tool=callgrind` counts a run over the
-text, less a run on no input. The texts are the logs of bench/bench.py, and the first lines of those of bench/repeats.py. --text adds
-a file, and --also a program. `make` builds the programs; --cargo PATH is the one that cargo built.
+text, less a run on no input. The texts are the logs of bench/bench.py, bench/generic.txt.gz, and the first lines of those of
+bench/repeats.py. --text adds a file, and --also a program. `make` builds the programs; --cargo PATH is the one that cargo built.
 """
 import argparse
+import gzip
 import itertools
 import os
 
@@ -15,6 +16,9 @@ from texts import made_lines
 
 # The most lines of a text, and the megabytes of the longest text that is made for them.
 LINES, SIZE = 4_000, 8
+
+# Symbols of generic code: parser combinators, futures, iterators and rayon. Over half of them have three references or more.
+GENERIC = os.path.join(os.path.dirname(os.path.abspath(__file__)), "generic.txt.gz")
 
 
 def first_lines(parts):
@@ -34,6 +38,8 @@ def texts(given):
     v0 = "".join(itertools.islice(made_lines(1, "v0"), LINES)).encode()
     yield "a log, v0, without hashes", v0, []
     yield "a log, v0, folded", v0, ["--fold"]
+    with gzip.open(GENERIC) as generic:
+        yield "symbols of generic code", generic.read(), ["--hash"]
     wanted = {"profile": "a profile", "once": "symbols that come once", "plain": "no symbol", "underscores": "many `_`"}
     for name, parts in made_texts(SIZE * 1_000_000):
         if name in wanted:

@@ -9,14 +9,13 @@ import argparse, os, re, sys
 
 ROOT = os.path.dirname(os.path.dirname(os.path.abspath(__file__)))
 CRATES = os.path.join(ROOT, "crates")
-# The crates that others call: the library and its laws, the calls for C and for pages over it; and the modules of the program that
-# have its filter, its arguments and its texts.
+# The crates that others call: the library and its laws, the calls for C and for pages over it, and what the program does.
 CALLED = {
     "rustc_demangle": ["lib"],
     "demangle_laws": ["lib"],
     "demangle_c": ["lib"],
     "demangle_web": ["lib"],
-    "kodliwe": ["filtering", "arguments", "about"],
+    "kodliwe_program": ["lib"],
 }
 PAGE = os.path.join(ROOT, "docs", "GUARANTEES.md")
 SPEC = re.compile(r"Rattle\.(\w+)\.specs\.(\w+)")

@@ -143,18 +143,18 @@ def check_rustc():
 NEW_COUNTS = {
     "demangle_c_string/src/lib.rt": {"write_text": 1, "write_folded_text": 1},
     "demangle_symbol/src/cursor/looks.rt": {"new": 2},
-    "demangle_v0/src/parser/parse.rt": {"at_path": 1, "in_larger_stack": 1},
+    "demangle_v0_parser/src/parse.rt": {"at_path": 1, "in_larger_stack": 1},
     "demangle_v0/src/printer.rt": {"print_validated": 1},
-    "kodliwe/src/filtering.rt": {"write_parts": 1},
-    "rustc_demangle/src/lib.rt": {"demangle": 1, "try_demangle": 1},
+    "demangle_value/src/lib.rt": {"demangle": 1, "try_demangle": 1},
+    "demangle_value/src/value.rt": {"read_run": 1},
+    "demangle_value/src/value/printing.rt": {"write_formatted": 1, "write_limited": 1, "write_folded": 1, "write_pieces_with_path_len": 1},
+    "kodliwe_program/src/filtering.rt": {"write_parts": 1},
     "rustc_demangle/src/slice.rt": {"demangle_slice_formatted": 1},
     "rustc_demangle/src/stream/bytes.rt": {"step": 1, "demangle_bytes_formatted": 1},
     "rustc_demangle/src/text.rt": {"put_text": 1},
-    "rustc_demangle/src/value.rt": {"read_run": 1},
-    "rustc_demangle/src/value/printing.rt": {"write_formatted": 1, "write_limited": 1, "write_folded": 1, "write_pieces_with_path_len": 1},
 }
 # Crates that only test.
-TESTING = ("demangle_corpus", "demangle_vectors", "filter_tests", "test_doubles")
+TESTING = ("demangle_corpus", "demangle_vectors", "filter_tests", "kodliwe_tests", "test_doubles")
 
 
 def new_counts(path):
