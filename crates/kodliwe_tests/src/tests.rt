@@ -246,7 +246,7 @@ fn symbols_are_arguments_in_any_place(rt: HostRuntime) -> Result<(), Fail> {
 
 #[test]
 fn unknown_options_are_errors(rt: HostRuntime) -> Result<(), Fail> {
-    for argument in [
+    for &argument in &[
         "--frob", "-x", "--hashes", "--hash=1", "--help=1", "-hV", "--inputs", "-Vx",
     ] {
         let line = format!(in rt.alloc();

@@ -61,7 +61,7 @@ fn keys_of_one_hash_have_their_own_texts(rt: HostRuntime) -> Result<(), Fail> {
 fn long_keys_and_texts_have_no_entry(rt: HostRuntime) -> Result<(), Fail> {
     let bytes = [b'a'; 2049];
     let mut memo = TextMemo::new(rt.alloc());
-    for (key_len, text_len, is_kept) in [
+    for &(key_len, text_len, is_kept) in &[
         (MAX_KEY, MAX_TEXT, true),
         (MAX_KEY.saturating_add(1), 1, false),
         (1, MAX_TEXT.saturating_add(1), false),

@@ -116,7 +116,7 @@ fn memory_is_a_sink(rt: HostRuntime) {
 
 #[test]
 fn memory_keeps_the_prefix(rt: HostRuntime) {
-    for (room, text) in [
+    for &(room, text) in &[
         (0, ""),
         (1, "f"),
         (4, "foo:"),

@@ -17,7 +17,7 @@ fn folded_is(symbol: &str, include_hash: bool, limit: usize, text: &str) -> bool
 
 #[test]
 fn arguments_are_folded(rt: HostRuntime) {
-    for (symbol, text) in [
+    for &(symbol, text) in &[
         ("_RINvC3foo3barhE", "foo::bar::<_>"),
         ("_RNvMC3fooINtB2_3BarlE3baz", "<foo::Bar<_>>::baz"),
         ("_RNvNtINtC1a1bhE1c1d", "a::b::<_>::c::d"),
@@ -49,7 +49,7 @@ fn arguments_are_folded(rt: HostRuntime) {
 
 #[test]
 fn arguments_are_neither_followed_nor_checked(rt: HostRuntime) {
-    for (symbol, text) in [
+    for &(symbol, text) in &[
         ("_RINvC1a1bL0_E", "a::b::<_>"),
         ("_RINvC1a1bRL0_hE", "a::b::<_>"),
         ("_RINvC1a1bB3_E", "a::b::<_>"),
@@ -69,7 +69,7 @@ fn arguments_are_neither_followed_nor_checked(rt: HostRuntime) {
 
 #[test]
 fn all_else_prints_as_without_folding(rt: HostRuntime) {
-    for (symbol, plain, alt) in [
+    for &(symbol, plain, alt) in &[
         (
             "_RNvMs0_NtCs1234_5alloc7raw_vecINtB5_6RawVechE8grow_one",
             "<alloc[3c1c0]::raw_vec::RawVec<_>>::grow_one",
@@ -125,7 +125,7 @@ fn folding_accepts_the_same_symbols(rt: HostRuntime) {
 
 #[test]
 fn a_limit_cuts_folded_pieces(rt: HostRuntime) {
-    for (limit, text) in [
+    for &(limit, text) in &[
         (0, "{size limit reached}.x"),
         (3, "foo{size limit reached}.x"),
         (8, "foo::bar{size limit reached}.x"),

@@ -7,7 +7,7 @@ use std::test::Fail;
 #[test]
 fn the_alternate_flag_leaves_out_the_hash(rt: HostRuntime) -> Result<(), Fail> {
     let alloc = rt.alloc();
-    for (symbol, plain, alt) in [
+    for &(symbol, plain, alt) in &[
         (
             "_ZN3foo17h05af221e174051e9E",
             "foo::h05af221e174051e9",

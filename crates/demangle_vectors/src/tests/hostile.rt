@@ -4,7 +4,7 @@ use std::test::Fail;
 
 #[test]
 fn lengths_without_bound_are_rejected(rt: HostRuntime) {
-    for text in [
+    for &text in &[
         "_ZN1000000000000000000000000000000aE",
         "_ZN18446744073709551616aE",
         "_ZN18446744073709551617aE",
@@ -40,7 +40,7 @@ fn a_million_elements_print_up_to_the_limit(rt: HostRuntime) -> Result<(), Fail>
 #[test]
 fn a_million_special_characters_print_as_they_should(rt: HostRuntime) -> Result<(), Fail> {
     let alloc = rt.alloc();
-    for (len, unit, count, printed_unit) in [
+    for &(len, unit, count, printed_unit) in &[
         (1_000_000, "$", 1_000_000, "$"),
         (1_000_000, "$.", 500_000, "$."),
         (1_000_000, "..", 500_000, "::"),

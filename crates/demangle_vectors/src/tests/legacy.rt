@@ -3,7 +3,7 @@ use super::assert_prints;
 
 #[test]
 fn paths_print_their_elements(rt: HostRuntime) {
-    for (symbol, path) in [
+    for &(symbol, path) in &[
         ("_ZN003fooE", "foo"),
         ("_ZNE", ""),
         ("_ZN3foo0E", "foo::"),
@@ -15,7 +15,7 @@ fn paths_print_their_elements(rt: HostRuntime) {
 
 #[test]
 fn escapes_give_their_characters(rt: HostRuntime) {
-    for (symbol, path) in [
+    for &(symbol, path) in &[
         ("_ZN14$u00000000041$E", "A"),
         ("_ZN4_$C$E", ","),
         ("_ZN6__$C$aE", "__,a"),
@@ -29,7 +29,7 @@ fn escapes_give_their_characters(rt: HostRuntime) {
 
 #[test]
 fn unknown_escapes_leave_the_rest_as_it_is(rt: HostRuntime) {
-    for (symbol, path) in [
+    for &(symbol, path) in &[
         ("_ZN10a$XX$b..cdE", "a$XX$b..cd"),
         ("_ZN5a$u7$E", "a$u7$"),
         ("_ZN2$$E", "$$"),
@@ -46,7 +46,7 @@ fn unknown_escapes_leave_the_rest_as_it_is(rt: HostRuntime) {
 
 #[test]
 fn a_last_hash_is_printed_in_the_plain_form_alone(rt: HostRuntime) {
-    for (symbol, plain, alt) in [
+    for &(symbol, plain, alt) in &[
         (
             "_ZN3foo17h05af221e174051e9E",
             "foo::h05af221e174051e9",
@@ -62,7 +62,7 @@ fn a_last_hash_is_printed_in_the_plain_form_alone(rt: HostRuntime) {
 
 #[test]
 fn suffixes_follow_the_path(rt: HostRuntime) {
-    for (symbol, plain, alt) in [
+    for &(symbol, plain, alt) in &[
         ("_ZN3fooE.x", "foo.x", "foo.x"),
         ("_ZNE.", ".", "."),
         ("_ZN3fooE.!a~", "foo.!a~", "foo.!a~"),

@@ -4,7 +4,7 @@ use crate::printed_is;
 
 #[test]
 fn texts_that_no_grammar_spells_print_themselves(rt: HostRuntime) {
-    for text in [
+    for &text in &[
         "",
         "é",
         "\0",
@@ -23,7 +23,7 @@ fn texts_that_no_grammar_spells_print_themselves(rt: HostRuntime) {
 
 #[test]
 fn symbols_with_a_suffix_that_is_not_allowed_print_themselves(rt: HostRuntime) {
-    for text in [
+    for &text in &[
         "_ZN3fooE.a b",
         "_ZN3fooEx",
         "_ZN3fooE\n",
@@ -42,7 +42,7 @@ fn symbols_with_a_suffix_that_is_not_allowed_print_themselves(rt: HostRuntime) {
 
 #[test]
 fn a_thin_lto_suffix_is_stripped_off_any_text(rt: HostRuntime) {
-    for (text, printed) in [
+    for &(text, printed) in &[
         ("foo.llvm.AB", "foo"),
         ("foo.llvm.", "foo"),
         (".llvm.", ""),

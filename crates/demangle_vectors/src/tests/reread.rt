@@ -54,7 +54,7 @@ fn a_reference_in_a_target_uses_bytes_each_time(rt: HostRuntime) {
     // It has 16 bytes after its prefix. The first reference uses 12, and 9 are free again after it.
     // The second uses 13, and the first, again in its target, 12.
     let symbol = "_RMC0TTThEB4_EB3_E";
-    for (bytes, text) in [
+    for &(bytes, text) in &[
         (11, "<(((u8,), {size limit reached}"),
         (12, "<(((u8,), (u8,)), {size limit reached}"),
         (15, "<(((u8,), (u8,)), {size limit reached}"),
@@ -80,7 +80,7 @@ fn a_reference_that_is_not_printed_uses_no_bytes(rt: HostRuntime) {
 fn a_reference_to_a_dyn_trait_uses_bytes(rt: HostRuntime) {
     // It has 26 bytes after its prefix. The reference leads to the byte 5, and uses 22.
     let symbol = "_RIC1aDIC1buEEL_DB4_p1XhEL_E";
-    for (bytes, text) in [
+    for &(bytes, text) in &[
         (21, "a::<dyn b<()>, dyn {size limit reached}"),
         (22, "a::<dyn b<()>, dyn b<(), X = u8>>"),
     ] {
@@ -95,7 +95,7 @@ fn bytes_stay_used_after_a_part_that_is_not_printed(rt: HostRuntime) {
     // prefix, so a reference uses 22 and 19 of them. Three of these stay used after it.
     let symbol = "_RMC0TC1aB3_NvMC1bC1c1dB3_E";
     let folded = "_RMC0TC1aB3_IC1eB3_EB3_E";
-    for (symbol, fold_arguments, bytes, text) in [
+    for &(symbol, fold_arguments, bytes, text) in &[
         (symbol, false, 24, "<(a, a, <c>::d, {size limit reached}"),
         (symbol, false, 25, "<(a, a, <c>::d, a)>"),
         (folded, true, 21, "<(a, a, e<_>, {size limit reached}"),

@@ -22,7 +22,7 @@ pub fn assert_constant(
 
 #[test]
 fn numbers_have_their_type_only_in_the_plain_form(rt: HostRuntime) -> Result<(), Fail> {
-    for (constant, plain, alt) in [
+    for &(constant, plain, alt) in &[
         ("j_", "0usize", "0"),
         ("j0_", "0usize", "0"),
         ("i1_", "1isize", "1"),
@@ -43,7 +43,7 @@ fn numbers_have_their_type_only_in_the_plain_form(rt: HostRuntime) -> Result<(),
 
 #[test]
 fn numbers_of_up_to_128_bits_are_decimal(rt: HostRuntime) -> Result<(), Fail> {
-    for (constant, plain, alt) in [
+    for &(constant, plain, alt) in &[
         (
             "o00ff00ff00ff00ff00ff_",
             "4703991516010230251775u128",
@@ -82,7 +82,7 @@ fn numbers_of_up_to_128_bits_are_decimal(rt: HostRuntime) -> Result<(), Fail> {
 
 #[test]
 fn longer_numbers_keep_their_nibbles(rt: HostRuntime) -> Result<(), Fail> {
-    for (constant, plain, alt) in [
+    for &(constant, plain, alt) in &[
         (
             "o100000000000000000000000000000000_",
             "0x100000000000000000000000000000000u128",
@@ -114,7 +114,7 @@ fn booleans_and_placeholders(rt: HostRuntime) -> Result<(), Fail> {
 
 #[test]
 fn references(rt: HostRuntime) -> Result<(), Fail> {
-    for (constant, plain, alt) in [
+    for &(constant, plain, alt) in &[
         ("Qh1_", "{&mut 1u8}", "{&mut 1}"),
         ("RQh1_", "{&&mut 1u8}", "{&&mut 1}"),
         ("RAE", "{&[]}", "{&[]}"),
@@ -133,7 +133,7 @@ fn arrays_and_tuples(rt: HostRuntime) -> Result<(), Fail> {
 
 #[test]
 fn values_of_structs_and_enums(rt: HostRuntime) -> Result<(), Fail> {
-    for (constant, plain, alt) in [
+    for &(constant, plain, alt) in &[
         ("VC1aTE", "{a()}", "{a()}"),
         ("VC1aSE", "{a {  }}", "{a {  }}"),
         ("VC1aSs_1xh1_E", "{a { x: 1u8 }}", "{a { x: 1 }}"),
@@ -146,7 +146,7 @@ fn values_of_structs_and_enums(rt: HostRuntime) -> Result<(), Fail> {
 
 #[test]
 fn a_constant_over_a_failed_path_stays_open(rt: HostRuntime) -> Result<(), Fail> {
-    for (constant, text) in [
+    for &(constant, text) in &[
         ("VIC1aL0_EU", "{a::<'{invalid syntax}>?"),
         ("AVIC1aL0_EUE", "{[a::<'{invalid syntax}>?]}"),
     ] {
@@ -157,7 +157,7 @@ fn a_constant_over_a_failed_path_stays_open(rt: HostRuntime) -> Result<(), Fail>
 
 #[test]
 fn malformed_constants_are_rejected(rt: HostRuntime) {
-    for text in [
+    for &text in &[
         "_RIC0Kb2_E",
         "_RIC0Kb10_E",
         "_RIC0Kcd800_E",

@@ -4,7 +4,7 @@ use std::test::Fail;
 
 #[test]
 fn characters_are_quoted(rt: HostRuntime) -> Result<(), Fail> {
-    for (constant, text) in [
+    for &(constant, text) in &[
         ("c27_", "'\\''"),
         ("c_", "'\\0'"),
         ("c0_", "'\\0'"),
@@ -23,7 +23,7 @@ fn characters_are_quoted(rt: HostRuntime) -> Result<(), Fail> {
 
 #[test]
 fn characters_past_ascii_are_escaped_by_their_category(rt: HostRuntime) -> Result<(), Fail> {
-    for (constant, text) in [
+    for &(constant, text) in &[
         ("ca0_", "'\\u{a0}'"),
         ("cad_", "'\\u{ad}'"),
         ("c301_", "'\\u{301}'"),
@@ -43,7 +43,7 @@ fn characters_past_ascii_are_escaped_by_their_category(rt: HostRuntime) -> Resul
 
 #[test]
 fn strings_are_quoted(rt: HostRuntime) -> Result<(), Fail> {
-    for (constant, text) in [
+    for &(constant, text) in &[
         ("e22_", "{*\"\\\"\"}"),
         ("e5c_", "{*\"\\\\\"}"),
         ("e_", "{*\"\"}"),

@@ -3,7 +3,7 @@ use super::{assert_prints, assert_rejected};
 
 #[test]
 fn references_print_their_targets(rt: HostRuntime) {
-    for (symbol, text) in [
+    for &(symbol, text) in &[
         (
             "_RIC1aDIC1buEEL_DB4_p1XhEL_E",
             "a::<dyn b<()>, dyn b<(), X = u8>>",
@@ -17,7 +17,7 @@ fn references_print_their_targets(rt: HostRuntime) {
 
 #[test]
 fn constants_are_referred_to(rt: HostRuntime) {
-    for (symbol, plain, alt) in [
+    for &(symbol, plain, alt) in &[
         ("_RIC1aKj7_KB4_E", "a::<7usize, 7usize>", "a::<7, 7>"),
         (
             "_RMC0TAhj3_AhB5_E",
@@ -31,7 +31,7 @@ fn constants_are_referred_to(rt: HostRuntime) {
 
 #[test]
 fn pairs_of_pairs(rt: HostRuntime) {
-    for (symbol, text) in [
+    for &(symbol, text) in &[
         ("_RMC0TThEB3_E", "<((u8,), (u8,))>"),
         ("_RMC0TTThEB4_EB3_E", "<(((u8,), (u8,)), ((u8,), (u8,)))>"),
         (
@@ -45,7 +45,7 @@ fn pairs_of_pairs(rt: HostRuntime) {
 
 #[test]
 fn lifetimes_are_those_of_the_reference(rt: HostRuntime) {
-    for (symbol, text) in [
+    for &(symbol, text) in &[
         ("_RIC5RL0_hFG_B2_EuE", "RL0_h::<for<'a> fn(&'a u8)>"),
         ("_RIC5RL0_hB2_uE", "RL0_h::<&'{invalid syntax} ?, ()>"),
     ] {
@@ -55,7 +55,7 @@ fn lifetimes_are_those_of_the_reference(rt: HostRuntime) {
 
 #[test]
 fn names_and_crates_can_be_targets(rt: HostRuntime) {
-    for (symbol, text) in [
+    for &(symbol, text) in &[
         ("_RIC2C5B2_E.zz", "C5::<B2_E.>.zz"),
         ("_RIC2C6B2_EC1b", "C6::<B2_EC1>"),
         ("_RIC2MCB2_E", "MC::<<?>>"),
@@ -66,7 +66,7 @@ fn names_and_crates_can_be_targets(rt: HostRuntime) {
 
 #[test]
 fn a_list_with_a_failed_element_is_closed(rt: HostRuntime) {
-    for (symbol, text) in [
+    for &(symbol, text) in &[
         ("_RIC3TZpB2_E", "TZp::<({invalid syntax},)>"),
         ("_RIC1aB1_E", "a::<{invalid syntax}>"),
         ("_RIC1aB0_E", "a::<a>"),
@@ -83,7 +83,7 @@ fn a_value_over_a_failed_path_stays_open(rt: HostRuntime) {
 
 #[test]
 fn errors_inside_a_pattern_or_a_dynamic_type_are_marked(rt: HostRuntime) {
-    for (symbol, text) in [
+    for &(symbol, text) in &[
         (
             "_RIC5WmOZEB2_E",
             "WmOZE::<u32 is {invalid syntax}{invalid syntax}>",
@@ -100,7 +100,7 @@ fn errors_inside_a_pattern_or_a_dynamic_type_are_marked(rt: HostRuntime) {
 
 #[test]
 fn an_open_trait_path_stays_open_after_its_reference(rt: HostRuntime) {
-    for (symbol, plain, alt) in [
+    for &(symbol, plain, alt) in &[
         (
             "_RYTC20DIC1aDC1bEL_Ep1xmEL_B4_EC1b",
             "<(DIC1aDC1bEL_Ep1xmEL_, dyn a<dyn b, x = u32>) as b>",
@@ -138,7 +138,7 @@ fn an_open_trait_path_stays_open_after_its_reference(rt: HostRuntime) {
 
 #[test]
 fn references_ahead_are_rejected(rt: HostRuntime) {
-    for text in [
+    for &text in &[
         "_RB_",
         "_RIC1aB4_E",
         "_RIC1aB9_E",

@@ -3,7 +3,7 @@ use super::{assert_prints, assert_rejected};
 
 #[test]
 fn basic_types_have_their_names(rt: HostRuntime) {
-    for (symbol, text) in [
+    for &(symbol, text) in &[
         ("_RMC0b", "<bool>"),
         ("_RMC0c", "<char>"),
         ("_RMC0e", "<str>"),
@@ -32,7 +32,7 @@ fn basic_types_have_their_names(rt: HostRuntime) {
 
 #[test]
 fn references_and_pointers(rt: HostRuntime) {
-    for (symbol, text) in [
+    for &(symbol, text) in &[
         ("_RMC0Rh", "<&u8>"),
         ("_RMC0Qh", "<&mut u8>"),
         ("_RMC0Ph", "<*const u8>"),
@@ -48,7 +48,7 @@ fn references_and_pointers(rt: HostRuntime) {
 
 #[test]
 fn arrays_have_a_length(rt: HostRuntime) {
-    for (symbol, plain, alt) in [
+    for &(symbol, plain, alt) in &[
         ("_RMC0Ahj3_", "<[u8; 3usize]>", "<[u8; 3]>"),
         (
             "_RMC0AAhj1_j2_",
@@ -63,7 +63,7 @@ fn arrays_have_a_length(rt: HostRuntime) {
 
 #[test]
 fn tuples(rt: HostRuntime) {
-    for (symbol, text) in [
+    for &(symbol, text) in &[
         ("_RMC0TE", "<()>"),
         ("_RMC0ThE", "<(u8,)>"),
         ("_RMC0ThtE", "<(u8, u16)>"),
@@ -75,7 +75,7 @@ fn tuples(rt: HostRuntime) {
 
 #[test]
 fn functions(rt: HostRuntime) {
-    for (symbol, text) in [
+    for &(symbol, text) in &[
         ("_RMC0FEu", "<fn()>"),
         ("_RMC0FhEh", "<fn(u8) -> u8>"),
         ("_RMC0FUEu", "<unsafe fn()>"),
@@ -94,7 +94,7 @@ fn functions(rt: HostRuntime) {
 
 #[test]
 fn an_argument_is_splat(rt: HostRuntime) {
-    for (symbol, text) in [
+    for &(symbol, text) in &[
         ("_RMC0wh", "<#[splat] u8>"),
         ("_RMC0FwThmEEu", "<fn(#[splat] (u8, u32))>"),
         ("_RMC0wC1a", "<#[splat] a>"),
@@ -105,7 +105,7 @@ fn an_argument_is_splat(rt: HostRuntime) {
 
 #[test]
 fn binders_name_their_lifetimes(rt: HostRuntime) {
-    for (symbol, text) in [
+    for &(symbol, text) in &[
         ("_RMC0FG_RL0_hEu", "<for<'a> fn(&'a u8)>"),
         ("_RMC0FG0_RL0_RL1_hEu", "<for<'a, 'b> fn(&'b &'a u8)>"),
         (
@@ -124,7 +124,7 @@ fn binders_name_their_lifetimes(rt: HostRuntime) {
 
 #[test]
 fn dynamic_types(rt: HostRuntime) {
-    for (symbol, text) in [
+    for &(symbol, text) in &[
         ("_RMC0DEL_", "<dyn >"),
         ("_RMC0DC1aEL_", "<dyn a>"),
         ("_RMC0DC1aC1bEL_", "<dyn a + b>"),
@@ -139,7 +139,7 @@ fn dynamic_types(rt: HostRuntime) {
 
 #[test]
 fn patterns(rt: HostRuntime) {
-    for (symbol, plain, alt) in [
+    for &(symbol, plain, alt) in &[
         (
             "_RMC0WmORm1_m2_Rm5_m6_E",
             "<u32 is 1u32..=2u32 | 5u32..=6u32>",
@@ -160,7 +160,7 @@ fn patterns(rt: HostRuntime) {
 
 #[test]
 fn a_lifetime_out_of_scope_is_marked(rt: HostRuntime) {
-    for (symbol, text) in [
+    for &(symbol, text) in &[
         ("_RMC0RL0_u", "<&'{invalid syntax} ?>"),
         (
             "_RMC0DIC1aL0_EEL_",
@@ -178,7 +178,7 @@ fn a_lifetime_out_of_scope_is_marked(rt: HostRuntime) {
 
 #[test]
 fn damaged_types_print_themselves(rt: HostRuntime) {
-    for text in [
+    for &text in &[
         "_RMC0",
         "_RMC0DE",
         "_RMC0FK0Eu",

@@ -111,7 +111,7 @@ fn assert_filter_writes(
 fn assert_filters_alike(rt: &impl Abort, alloc: Global, text: &str) -> Result<(), Fail> {
     for limit in [0, 5, 767, 768, 1_000_000] {
         for include_hash in [true, false] {
-            for format in [
+            for &format in &[
                 Format::unfolded(include_hash, limit),
                 Format::folded(include_hash, limit),
             ] {
@@ -140,7 +140,7 @@ fn assert_filters_alike(rt: &impl Abort, alloc: Global, text: &str) -> Result<()
 
 #[test]
 fn runs_of_each_kind(rt: HostRuntime) -> Result<(), Fail> {
-    for (run, plain, folded) in [
+    for &(run, plain, folded) in &[
         ("_RNvC3foo3bar", "foo::bar", "foo::bar"),
         ("_RNvC3foo3bar.llvm.123", "foo::bar", "foo::bar"),
         ("_RNvC3foo3bar.cold", "foo::bar.cold", "foo::bar.cold"),
@@ -298,7 +298,7 @@ const LONG_RUNS: [(&str, &str, &str); 21] = [
 fn runs_that_may_be_printed_first(rt: HostRuntime) -> Result<(), Fail> {
     let alloc = rt.alloc();
     for (run, plain, folded) in LONG_RUNS {
-        for (format, wanted) in [
+        for &(format, wanted) in &[
             (Format::unfolded(true, 1_000_000), plain),
             (Format::folded(true, 1_000_000), folded),
         ] {

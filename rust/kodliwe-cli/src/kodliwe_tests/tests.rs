@@ -253,7 +253,7 @@ fn symbols_are_arguments_in_any_place() -> Result<(), Fail> {
 #[test]
 fn unknown_options_are_errors() -> Result<(), Fail> {
     let rt = HostRuntime;
-    for argument in [
+    for &argument in &[
         "--frob", "-x", "--hashes", "--hash=1", "--help=1", "-hV", "--inputs", "-Vx",
     ] {
         let line = format!(in rt.alloc();

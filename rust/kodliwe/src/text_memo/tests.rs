@@ -62,7 +62,7 @@ fn long_keys_and_texts_have_no_entry() -> Result<(), Fail> {
     let rt = HostRuntime;
     let bytes = [b'a'; 2049];
     let mut memo = TextMemo::new(rt.alloc());
-    for (key_len, text_len, is_kept) in [
+    for &(key_len, text_len, is_kept) in &[
         (MAX_KEY, MAX_TEXT, true),
         (MAX_KEY.saturating_add(1), 1, false),
         (1, MAX_TEXT.saturating_add(1), false),

@@ -114,7 +114,7 @@ fn memory_is_a_sink() {
 
 #[test]
 fn memory_keeps_the_prefix() {
-    for (room, text) in [
+    for &(room, text) in &[
         (0, ""),
         (1, "f"),
         (4, "foo:"),

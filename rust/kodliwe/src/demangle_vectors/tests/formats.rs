@@ -12,7 +12,7 @@ use core::fmt::Write;
 fn the_alternate_flag_leaves_out_the_hash() -> Result<(), Fail> {
     let rt = HostRuntime;
     let alloc = rt.alloc();
-    for (symbol, plain, alt) in [
+    for &(symbol, plain, alt) in &[
         (
             "_ZN3foo17h05af221e174051e9E",
             "foo::h05af221e174051e9",

@@ -68,7 +68,7 @@ fn assert_prints_whole(symbol: &str, wanted: &str) {
 
 #[test]
 fn paths_of_each_kind_are_printed_first() {
-    for text in [
+    for &text in &[
         "_RNvNtCs1234_7mycrate3foo3barx",
         "_RNvNtCs1234_7mycrate3foo3barNtB2_3foox",
         "_RNvMs_NtCs1234_7mycrate3fooNtB4_3Bar3bazx",
@@ -88,7 +88,7 @@ fn paths_of_each_kind_are_printed_first() {
 
 #[test]
 fn folded_paths_are_printed_first() {
-    for text in [
+    for &text in &[
         "_RNvNtCs1234_7mycrate3foo3barx",
         "_RINvNtCs1234_7mycrate3foo3barNtB2_1aNtB2_1bEx",
         "_RNvMs_NtCs1234_7mycrate3fooINtB4_3BarhE3bazC5otherx",
@@ -132,7 +132,7 @@ fn valid_path_is_printed_with_what_was_withheld() {
 
 #[test]
 fn slow_parts_use_up_the_fuel() {
-    for text in [
+    for &text in &[
         // Punycode: of a crate, of nested paths, of an associated type, and within a reference.
         "_RNvCu9bcher_kva3foox",
         "_RNvC1au9bcher_kvax",
@@ -156,7 +156,7 @@ fn references_have_little_fuel() -> Result<(), Fail> {
     let alloc = rt.alloc();
     // Each reference has six steps and five bytes, which use up 32. There are 64 at the start, and the
     // first 13 bytes earn 39, and each reference 9.
-    for (count, is_wanted) in [
+    for &(count, is_wanted) in &[
         (1usize, true),
         (3, true),
         (4, true),
@@ -200,7 +200,7 @@ fn a_text_ends_at_the_limit() {
 
 #[test]
 fn the_rest_of_a_valid_symbol_is_printed() {
-    for (symbol, wanted) in [
+    for &(symbol, wanted) in &[
         ("_RNvCu9bcher_kva3foo", "bücher::foo"),
         ("_RIC1aKRe616263_E", "a::<\"abc\">"),
         ("_RIC1aKe616263_E", "a::<{*\"abc\"}>"),

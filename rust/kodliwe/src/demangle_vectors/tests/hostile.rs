@@ -8,7 +8,7 @@ use crate::support::texts::RepeatIn;
 
 #[test]
 fn lengths_without_bound_are_rejected() {
-    for text in [
+    for &text in &[
         "_ZN1000000000000000000000000000000aE",
         "_ZN18446744073709551616aE",
         "_ZN18446744073709551617aE",
@@ -46,7 +46,7 @@ fn a_million_elements_print_up_to_the_limit() -> Result<(), Fail> {
 fn a_million_special_characters_print_as_they_should() -> Result<(), Fail> {
     let rt = HostRuntime;
     let alloc = rt.alloc();
-    for (len, unit, count, printed_unit) in [
+    for &(len, unit, count, printed_unit) in &[
         (1_000_000, "$", 1_000_000, "$"),
         (1_000_000, "$.", 500_000, "$."),
         (1_000_000, "..", 500_000, "::"),

@@ -4,7 +4,7 @@ use super::assert_prints;
 
 #[test]
 fn paths_print_their_elements() {
-    for (symbol, path) in [
+    for &(symbol, path) in &[
         ("_ZN003fooE", "foo"),
         ("_ZNE", ""),
         ("_ZN3foo0E", "foo::"),
@@ -16,7 +16,7 @@ fn paths_print_their_elements() {
 
 #[test]
 fn escapes_give_their_characters() {
-    for (symbol, path) in [
+    for &(symbol, path) in &[
         ("_ZN14$u00000000041$E", "A"),
         ("_ZN4_$C$E", ","),
         ("_ZN6__$C$aE", "__,a"),
@@ -30,7 +30,7 @@ fn escapes_give_their_characters() {
 
 #[test]
 fn unknown_escapes_leave_the_rest_as_it_is() {
-    for (symbol, path) in [
+    for &(symbol, path) in &[
         ("_ZN10a$XX$b..cdE", "a$XX$b..cd"),
         ("_ZN5a$u7$E", "a$u7$"),
         ("_ZN2$$E", "$$"),
@@ -47,7 +47,7 @@ fn unknown_escapes_leave_the_rest_as_it_is() {
 
 #[test]
 fn a_last_hash_is_printed_in_the_plain_form_alone() {
-    for (symbol, plain, alt) in [
+    for &(symbol, plain, alt) in &[
         (
             "_ZN3foo17h05af221e174051e9E",
             "foo::h05af221e174051e9",
@@ -63,7 +63,7 @@ fn a_last_hash_is_printed_in_the_plain_form_alone() {
 
 #[test]
 fn suffixes_follow_the_path() {
-    for (symbol, plain, alt) in [
+    for &(symbol, plain, alt) in &[
         ("_ZN3fooE.x", "foo.x", "foo.x"),
         ("_ZNE.", ".", "."),
         ("_ZN3fooE.!a~", "foo.!a~", "foo.!a~"),

@@ -21,7 +21,7 @@ fn limited_is(symbol: &str, include_hash: bool, limit: usize, text: &str) -> boo
 
 #[test]
 fn a_limit_cuts_whole_pieces() {
-    for (symbol, limit, text) in [
+    for &(symbol, limit, text) in &[
         ("_ZN3foo3barE", 5, "foo::{size limit reached}"),
         ("_ZN3foo3barE", 0, "{size limit reached}"),
         ("_ZNE", 0, ""),
@@ -63,7 +63,7 @@ fn a_limit_cuts_whole_pieces() {
 #[test]
 fn a_hash_that_is_left_out_counts_nothing() {
     let symbol = "_ZN3foo17h05af221e174051e9E";
-    for (limit, text) in [
+    for &(limit, text) in &[
         (2, "{size limit reached}"),
         (3, "foo{size limit reached}"),
         (21, "foo::{size limit reached}"),

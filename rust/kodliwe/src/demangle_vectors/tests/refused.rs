@@ -5,7 +5,7 @@ use crate::demangle_vectors::printed_is;
 
 #[test]
 fn texts_that_no_grammar_spells_print_themselves() {
-    for text in [
+    for &text in &[
         "",
         "é",
         "\0",
@@ -24,7 +24,7 @@ fn texts_that_no_grammar_spells_print_themselves() {
 
 #[test]
 fn symbols_with_a_suffix_that_is_not_allowed_print_themselves() {
-    for text in [
+    for &text in &[
         "_ZN3fooE.a b",
         "_ZN3fooEx",
         "_ZN3fooE\n",
@@ -43,7 +43,7 @@ fn symbols_with_a_suffix_that_is_not_allowed_print_themselves() {
 
 #[test]
 fn a_thin_lto_suffix_is_stripped_off_any_text() {
-    for (text, printed) in [
+    for &(text, printed) in &[
         ("foo.llvm.AB", "foo"),
         ("foo.llvm.", "foo"),
         (".llvm.", ""),

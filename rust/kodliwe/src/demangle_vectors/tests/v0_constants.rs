@@ -20,7 +20,7 @@ pub fn assert_constant(alloc: Global, constant: &str, plain: &str, alt: &str) ->
 #[test]
 fn numbers_have_their_type_only_in_the_plain_form() -> Result<(), Fail> {
     let rt = HostRuntime;
-    for (constant, plain, alt) in [
+    for &(constant, plain, alt) in &[
         ("j_", "0usize", "0"),
         ("j0_", "0usize", "0"),
         ("i1_", "1isize", "1"),
@@ -42,7 +42,7 @@ fn numbers_have_their_type_only_in_the_plain_form() -> Result<(), Fail> {
 #[test]
 fn numbers_of_up_to_128_bits_are_decimal() -> Result<(), Fail> {
     let rt = HostRuntime;
-    for (constant, plain, alt) in [
+    for &(constant, plain, alt) in &[
         (
             "o00ff00ff00ff00ff00ff_",
             "4703991516010230251775u128",
@@ -82,7 +82,7 @@ fn numbers_of_up_to_128_bits_are_decimal() -> Result<(), Fail> {
 #[test]
 fn longer_numbers_keep_their_nibbles() -> Result<(), Fail> {
     let rt = HostRuntime;
-    for (constant, plain, alt) in [
+    for &(constant, plain, alt) in &[
         (
             "o100000000000000000000000000000000_",
             "0x100000000000000000000000000000000u128",
@@ -116,7 +116,7 @@ fn booleans_and_placeholders() -> Result<(), Fail> {
 #[test]
 fn references() -> Result<(), Fail> {
     let rt = HostRuntime;
-    for (constant, plain, alt) in [
+    for &(constant, plain, alt) in &[
         ("Qh1_", "{&mut 1u8}", "{&mut 1}"),
         ("RQh1_", "{&&mut 1u8}", "{&&mut 1}"),
         ("RAE", "{&[]}", "{&[]}"),
@@ -137,7 +137,7 @@ fn arrays_and_tuples() -> Result<(), Fail> {
 #[test]
 fn values_of_structs_and_enums() -> Result<(), Fail> {
     let rt = HostRuntime;
-    for (constant, plain, alt) in [
+    for &(constant, plain, alt) in &[
         ("VC1aTE", "{a()}", "{a()}"),
         ("VC1aSE", "{a {  }}", "{a {  }}"),
         ("VC1aSs_1xh1_E", "{a { x: 1u8 }}", "{a { x: 1 }}"),
@@ -151,7 +151,7 @@ fn values_of_structs_and_enums() -> Result<(), Fail> {
 #[test]
 fn a_constant_over_a_failed_path_stays_open() -> Result<(), Fail> {
     let rt = HostRuntime;
-    for (constant, text) in [
+    for &(constant, text) in &[
         ("VIC1aL0_EU", "{a::<'{invalid syntax}>?"),
         ("AVIC1aL0_EUE", "{[a::<'{invalid syntax}>?]}"),
     ] {
@@ -162,7 +162,7 @@ fn a_constant_over_a_failed_path_stays_open() -> Result<(), Fail> {
 
 #[test]
 fn malformed_constants_are_rejected() {
-    for text in [
+    for &text in &[
         "_RIC0Kb2_E",
         "_RIC0Kb10_E",
         "_RIC0Kcd800_E",

@@ -7,7 +7,7 @@ use crate::support::test::Fail;
 #[test]
 fn characters_are_quoted() -> Result<(), Fail> {
     let rt = HostRuntime;
-    for (constant, text) in [
+    for &(constant, text) in &[
         ("c27_", "'\\''"),
         ("c_", "'\\0'"),
         ("c0_", "'\\0'"),
@@ -27,7 +27,7 @@ fn characters_are_quoted() -> Result<(), Fail> {
 #[test]
 fn characters_past_ascii_are_escaped_by_their_category() -> Result<(), Fail> {
     let rt = HostRuntime;
-    for (constant, text) in [
+    for &(constant, text) in &[
         ("ca0_", "'\\u{a0}'"),
         ("cad_", "'\\u{ad}'"),
         ("c301_", "'\\u{301}'"),
@@ -48,7 +48,7 @@ fn characters_past_ascii_are_escaped_by_their_category() -> Result<(), Fail> {
 #[test]
 fn strings_are_quoted() -> Result<(), Fail> {
     let rt = HostRuntime;
-    for (constant, text) in [
+    for &(constant, text) in &[
         ("e22_", "{*\"\\\"\"}"),
         ("e5c_", "{*\"\\\\\"}"),
         ("e_", "{*\"\"}"),

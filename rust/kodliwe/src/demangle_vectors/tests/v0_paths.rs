@@ -4,7 +4,7 @@ use super::{assert_prints, assert_rejected};
 
 #[test]
 fn a_crate_has_a_disambiguator_only_in_the_plain_form() {
-    for (symbol, plain, alt) in [
+    for &(symbol, plain, alt) in &[
         ("_RCs_3foo", "foo[1]", "foo"),
         ("_RCslYGhA16ahyd_1a", "a[ffffffffffffffff]", "a"),
         ("_RCs0_3foo", "foo[2]", "foo"),
@@ -16,7 +16,7 @@ fn a_crate_has_a_disambiguator_only_in_the_plain_form() {
 
 #[test]
 fn nested_names_have_two_colons_between() {
-    for (symbol, plain, alt) in [
+    for &(symbol, plain, alt) in &[
         ("_RNvC1a0", "a", "a"),
         ("_RNvCs_1as_1b", "a[1]::b", "a::b"),
         (
@@ -31,7 +31,7 @@ fn nested_names_have_two_colons_between() {
 
 #[test]
 fn special_namespaces_have_a_number() {
-    for (symbol, text) in [
+    for &(symbol, text) in &[
         ("_RNCC1a0", "a::{closure#0}"),
         ("_RNSC1as_4vtbl", "a::{shim:vtbl#1}"),
         ("_RNZC1a0", "a::{Z#0}"),
@@ -44,7 +44,7 @@ fn special_namespaces_have_a_number() {
 
 #[test]
 fn implementations_have_no_path() {
-    for (symbol, text) in [
+    for &(symbol, text) in &[
         ("_RXC0uC1t", "<() as t>"),
         ("_RMC0u", "<()>"),
         ("_RYuC1t", "<() as t>"),
@@ -57,7 +57,7 @@ fn implementations_have_no_path() {
 
 #[test]
 fn a_value_has_two_colons_before_its_arguments() {
-    for (symbol, text) in [
+    for &(symbol, text) in &[
         ("_RIC1aE", "a::<>"),
         ("_RIC1auE", "a::<()>"),
         ("_RIC1aL_uKpE", "a::<'_, (), _>"),
@@ -70,7 +70,7 @@ fn a_value_has_two_colons_before_its_arguments() {
 
 #[test]
 fn constants_can_be_arguments() {
-    for (symbol, plain, alt) in [
+    for &(symbol, plain, alt) in &[
         ("_RIC1aKj0_E", "a::<0usize>", "a::<0>"),
         (
             "_RIC1auKhb_Kb1_E",
@@ -84,7 +84,7 @@ fn constants_can_be_arguments() {
 
 #[test]
 fn names_in_punycode_are_decoded() {
-    for (symbol, text) in [
+    for &(symbol, text) in &[
         ("_RCu9bcher_kva", "bücher"),
         ("_RCu3tda", "ü"),
         // A delta of 455 is the last that is not divided again, and one of 456 the first that is.
@@ -102,7 +102,7 @@ fn names_in_punycode_are_decoded() {
 
 #[test]
 fn names_that_are_not_punycode_print_as_they_are() {
-    for (symbol, text) in [
+    for &(symbol, text) in &[
         ("_RCu3a_A", "punycode{a-A}"),
         ("_RCu1t", "punycode{t}"),
         ("_RCu14_99999999999999", "punycode{99999999999999}"),
@@ -121,7 +121,7 @@ fn each_prefix_is_read() {
 
 #[test]
 fn an_instantiating_crate_is_not_printed() {
-    for (symbol, text) in [
+    for &(symbol, text) in &[
         ("_RC1aC1b", "a"),
         ("_RC1aC1b.x", "a.x"),
         ("_RC1aC1b.", "a."),
@@ -132,7 +132,7 @@ fn an_instantiating_crate_is_not_printed() {
 
 #[test]
 fn suffixes_follow_the_path() {
-    for (symbol, text) in [
+    for &(symbol, text) in &[
         ("_RC1a.llvm.ab", "a.llvm.ab"),
         ("_RC1a.x", "a.x"),
         ("_RC1a.", "a."),
@@ -143,7 +143,7 @@ fn suffixes_follow_the_path() {
 
 #[test]
 fn damaged_paths_print_themselves() {
-    for text in [
+    for &text in &[
         "_R",
         "R",
         "__R",
@@ -172,7 +172,7 @@ fn damaged_paths_print_themselves() {
 
 #[test]
 fn numbers_of_more_than_64_bits_are_rejected() {
-    for text in [
+    for &text in &[
         "_RCslYGhA16ahye_1a",
         "_RBlYGhA16ahye_",
         "_RC99999999999999999999_a",

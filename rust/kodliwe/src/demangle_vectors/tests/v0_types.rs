@@ -4,7 +4,7 @@ use super::{assert_prints, assert_rejected};
 
 #[test]
 fn basic_types_have_their_names() {
-    for (symbol, text) in [
+    for &(symbol, text) in &[
         ("_RMC0b", "<bool>"),
         ("_RMC0c", "<char>"),
         ("_RMC0e", "<str>"),
@@ -33,7 +33,7 @@ fn basic_types_have_their_names() {
 
 #[test]
 fn references_and_pointers() {
-    for (symbol, text) in [
+    for &(symbol, text) in &[
         ("_RMC0Rh", "<&u8>"),
         ("_RMC0Qh", "<&mut u8>"),
         ("_RMC0Ph", "<*const u8>"),
@@ -49,7 +49,7 @@ fn references_and_pointers() {
 
 #[test]
 fn arrays_have_a_length() {
-    for (symbol, plain, alt) in [
+    for &(symbol, plain, alt) in &[
         ("_RMC0Ahj3_", "<[u8; 3usize]>", "<[u8; 3]>"),
         (
             "_RMC0AAhj1_j2_",
@@ -64,7 +64,7 @@ fn arrays_have_a_length() {
 
 #[test]
 fn tuples() {
-    for (symbol, text) in [
+    for &(symbol, text) in &[
         ("_RMC0TE", "<()>"),
         ("_RMC0ThE", "<(u8,)>"),
         ("_RMC0ThtE", "<(u8, u16)>"),
@@ -76,7 +76,7 @@ fn tuples() {
 
 #[test]
 fn functions() {
-    for (symbol, text) in [
+    for &(symbol, text) in &[
         ("_RMC0FEu", "<fn()>"),
         ("_RMC0FhEh", "<fn(u8) -> u8>"),
         ("_RMC0FUEu", "<unsafe fn()>"),
@@ -95,7 +95,7 @@ fn functions() {
 
 #[test]
 fn an_argument_is_splat() {
-    for (symbol, text) in [
+    for &(symbol, text) in &[
         ("_RMC0wh", "<#[splat] u8>"),
         ("_RMC0FwThmEEu", "<fn(#[splat] (u8, u32))>"),
         ("_RMC0wC1a", "<#[splat] a>"),
@@ -106,7 +106,7 @@ fn an_argument_is_splat() {
 
 #[test]
 fn binders_name_their_lifetimes() {
-    for (symbol, text) in [
+    for &(symbol, text) in &[
         ("_RMC0FG_RL0_hEu", "<for<'a> fn(&'a u8)>"),
         ("_RMC0FG0_RL0_RL1_hEu", "<for<'a, 'b> fn(&'b &'a u8)>"),
         (
@@ -125,7 +125,7 @@ fn binders_name_their_lifetimes() {
 
 #[test]
 fn dynamic_types() {
-    for (symbol, text) in [
+    for &(symbol, text) in &[
         ("_RMC0DEL_", "<dyn >"),
         ("_RMC0DC1aEL_", "<dyn a>"),
         ("_RMC0DC1aC1bEL_", "<dyn a + b>"),
@@ -140,7 +140,7 @@ fn dynamic_types() {
 
 #[test]
 fn patterns() {
-    for (symbol, plain, alt) in [
+    for &(symbol, plain, alt) in &[
         (
             "_RMC0WmORm1_m2_Rm5_m6_E",
             "<u32 is 1u32..=2u32 | 5u32..=6u32>",
@@ -161,7 +161,7 @@ fn patterns() {
 
 #[test]
 fn a_lifetime_out_of_scope_is_marked() {
-    for (symbol, text) in [
+    for &(symbol, text) in &[
         ("_RMC0RL0_u", "<&'{invalid syntax} ?>"),
         (
             "_RMC0DIC1aL0_EEL_",
@@ -179,7 +179,7 @@ fn a_lifetime_out_of_scope_is_marked() {
 
 #[test]
 fn damaged_types_print_themselves() {
-    for text in [
+    for &text in &[
         "_RMC0",
         "_RMC0DE",
         "_RMC0FK0Eu",

@@ -133,7 +133,7 @@ fn a_memo_knows_what_is_before_a_run() -> Result<(), Fail> {
     let folded = b"foo::bar::quux::<_> foo::bar::quux::<_> a_RINvNtC3foo3bar4quuxhE \
         ._foo::bar::quux::<_>\n"
         .as_slice();
-    for (format, wanted) in [
+    for &(format, wanted) in &[
         (Format::unfolded(true, 1_000), plain),
         (Format::folded(true, 1_000), folded),
     ] {
