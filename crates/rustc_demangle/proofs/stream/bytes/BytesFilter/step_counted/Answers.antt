@@ -1,4 +1,6 @@
-use Rattle.std.proofs.Common.{subst}
+use Rattle.std.proofs.Common.{arith, refl, subst, IsErr}
+use Rattle.std.proofs.lemmas.Bool.{false≢true}
+use Rattle.std.proofs.lemmas.Grind.{common_steps}
 use Rattle.std.specs.Io.BufRead.{FillKeeps}
 use Rattle.std.proofs.BufReadLemmas.{Consumes_shown}
 use Rattle.rustc_demangle.proofs.ByteStreamLemmas.{step_took}
@@ -24,3 +26,9 @@ returns-clause-linear g c = rw (← c.self.view_is) (step_lost c.args.memo.now _
 
 pub returns-in_err-taken-clause-linear : goal.returns-in_err-taken-clause-linear
 returns-in_err-taken-clause-linear g c = rw (← c.self.view_is) (step_lost c.args.memo.now _ c.in-Ok.available.now _ _ _ c.in-Ok.ensures.front c.in_err-taken.ensures.lost)
+
+pub returns-in-Err-clause-ended : goal.returns-in-Err-clause-ended
+returns-in-Err-clause-ended g c = λ e. absurd (false≢true (subst IsErr e refl))
+
+pub returns-then-is_empty-clause-ended : goal.returns-then-is_empty-clause-ended
+returns-then-is_empty-clause-ended g c = grind (arith, common_steps)

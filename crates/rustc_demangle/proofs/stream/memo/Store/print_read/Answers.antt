@@ -1,4 +1,5 @@
-use Rattle.std.proofs.Common.{◌∙◌}
+use Rattle.std.proofs.lemmas.Grind.{common_steps}
+use Rattle.std.proofs.Common.{◌∙◌, arith}
 use Rattle.demangle_value.proofs.RunLemmas.{symbol_replaced, run_kept}
 use Rattle.demangle_value.proofs.LinearPrinting.{prints_linear}
 use Rattle.rustc_demangle.proofs.stream.memo.Store.print_read.Goals as goal
@@ -17,3 +18,6 @@ returns-then-print_to_buffer-clause-prints c = prints_linear c.args.format c.arg
 
 pub returns-else-print_to_buffer-clause-prints : goal.returns-else-print_to_buffer-clause-prints
 returns-else-print_to_buffer-clause-prints c = prints_linear c.args.format c.args.symbol.now c.args.run.now _ _ c.requires.read c.print_to_buffer.ensures.looks
+
+pub print_to_buffer-requires : goal.print_to_buffer-requires
+print_to_buffer-requires c = grind (arith, common_steps)
