@@ -1,4 +1,0 @@
-use Rattle.demangle_value.proofs.value.Demangle.write_to.Goals as goal
-
-pub returns : goal.returns
-returns g c = c.write_limited.ensures
