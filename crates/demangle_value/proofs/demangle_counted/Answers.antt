@@ -5,6 +5,3 @@ use Rattle.demangle_value.proofs.demangle_counted.Goals as goal
 pub returns-clause-most : goal.returns-clause-most
 returns-clause-most c =
     omega (arith, c.read.ensures.most, ap length c.without_thin_lto.ensures, stripped-shorter c.args.s.now)
-
-pub returns-clause-grows : goal.returns-clause-grows
-returns-clause-grows c = c.read.ensures.grows
