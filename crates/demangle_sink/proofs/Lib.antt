@@ -1,6 +1,7 @@
 pub mod Characters
 pub mod CutLemmas
 pub mod Fillings
+pub mod HeldTexts
 pub mod PutsPiecesLemmas
 pub mod Parts
 pub mod Printed

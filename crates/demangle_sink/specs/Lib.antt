@@ -5,7 +5,6 @@ pub mod PutsPieces
 pub mod Array
 pub mod Writer
 pub mod Slice
-pub mod HeldTexts
 pub mod Writes
 -- Internal.
 pub mod Limit

@@ -6,7 +6,7 @@ use Rattle.demangle_sink.specs.declared.TextSink.{Ghosts}
 use Rattle.demangle_sink.specs.declared.SinkRefused.{SinkRefused}
 use Rattle.demangle_sink.specs.declared.limit.Reread.{Reread}
 use Rattle.demangle_sink.specs.declared.limit.HeldText.{HeldText}
-use Rattle.demangle_sink.specs.Sink.{TakesAgain, room_after}
+use Rattle.demangle_sink.specs.Sink.{HoldingLaws, TakesAgain, room_after}
 use Rattle.demangle_sink.specs.declared.limit.SizeLimitedFmtAdapter.{SizeLimitedFmtAdapter}
 use Rattle.demangle_sink.specs.Cut.{prefix_within, size}
 use Rattle.demangle_sink.specs.PutsPieces.{PutsPieces}
@@ -92,9 +92,13 @@ pub record FollowsSome (old : Reread) (text : HeldText) (new : Reread) : Type 0 
 abbrev pub FollowsAgain : (old : Reread) → HeldText → (new : Reread) → Type 0
 FollowsAgain old text new = ((text.references ≡ 0) × (new ≡ old)) ⊎ FollowsSome old text new
 
+-- the sink holds its text, so that it has the laws of such a sink
+abbrev pub Holds : {S : Type 0} → Ghosts S → Type 0
+Holds sink = HoldingLaws sink.took sink.failed sink.room sink.held
+
 -- the bytes of a text that the sink holds were put again
 pub record TakesText {S : Type 0} (sink : Ghosts S) (old : SizeLimitedFmtAdapter S) (text : HeldText) (new : SizeLimitedFmtAdapter S) : Type 0 where
-  pub copies : sink.copies ≡ true
+  pub laws : Holds sink
   pub again : TakesAgain sink.took (sink.held old.out.now) text.start text.len old.out.now new.out.now
   pub room : sink.room new.out.now ≡ room_after text.len (sink.room old.out.now)
 

@@ -1,6 +1,5 @@
 -- The bytes of a slice after a text was written to it, and the effect of a sink on the slice.
-use Rattle.std.specs.Prelude.{◌≡◌, ℕ, ◌+◌, ◌-◌, ◌≤◌, Bool, true, false, List, [], ◌∷◌, ◌++◌, length, take, drop, nat_le, Option, None, Some, refl, if◌then◌else◌}
-use Rattle.std.below.core.specs.declared.int.usize.TheConstants.{MAX}
+use Rattle.std.specs.Prelude.{◌≡◌, ℕ, ◌+◌, ◌-◌, List, [], ◌∷◌, ◌++◌, length, take, drop, nat_le, Option, None, Some, refl, if◌then◌else◌}
 use Rattle.std.proofs.Common.{zero, suc, sym, ap, ◌∙◌, arith}
 use Rattle.std.proofs.lemmas.List.{take-append-drop, drop_all, length-append, length-drop}
 

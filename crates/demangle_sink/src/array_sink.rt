@@ -61,8 +61,4 @@ impl<const N: usize> TextSink for ArraySink<N> {
 
     ghost took_joined = { λ s t u xs ys h k.
         k ∙ (ap (λ z. z ++ ys) h ∙ append_assoc (text_of s) xs ys) };
-
-    ghost took_held = { λ s t xs h. tt };
-
-    ghost took_split = { λ s u xs ys c a h. cc c };
 }

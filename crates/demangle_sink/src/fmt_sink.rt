@@ -55,8 +55,4 @@ impl<'f, W: fmt::Write> TextSink for FmtSink<'f, W> {
 
     ghost took_joined = { λ s t u xs ys h k.
         (k.0 ∙ h.0, FmtTook-joined W.write_str_gives _ _ _ xs ys h.1 k.1) };
-
-    ghost took_held = { λ s t xs h. tt };
-
-    ghost took_split = { λ s u xs ys c a h. cc c };
 }

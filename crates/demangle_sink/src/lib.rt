@@ -2,7 +2,7 @@
 #![tactic(auto)]
 
 ghost use Rattle.std.specs.Prelude.{◌≡◌, ◌+◌, ◌≤◌, ℕ, List, [], ◌++◌, length, Option, None, Bool, true, false, IfSome, IsOk, OnOk, OnErr};
-ghost use Rattle.demangle_sink.specs.Sink.{IsWithin, room_after, HasLength, TakesAgain, Grows};
+ghost use Rattle.demangle_sink.specs.Sink.{IsWithin, room_after, HasLength, TakesAgain, HoldingLaws};
 
 mod array_sink;
 mod chars;
@@ -29,6 +29,8 @@ pub struct SinkRefused;
 /// A sink has a `room`. A piece within the room is always taken, and the room falls by the number
 /// of its bytes. An empty piece is always taken. If `keeps` is true, a rejected piece leaves the
 /// sink's text and room unchanged.
+///
+/// A sink that does not hold its text leaves out `can_copy`, `held_len` and `put_again`.
 pub trait TextSink {
     // Says that the second sink is the first after it took these bytes.
     ghost took: { Self → List ℕ → Self → Type 0 };
@@ -41,10 +43,8 @@ pub trait TextSink {
     // Says whether a rejected piece leaves the text and the room of the sink unchanged.
     ghost keeps: { Bool };
 
-    // Says whether the sink can take bytes again that it holds.
-    ghost copies: { Bool } = { false };
-
-    // The text that the sink took from its start on, if it holds all of it.
+    // The text that the sink took from its start on, if it holds all of it. Such a sink proves its
+    // laws in the clauses `laws`. Any other sink leaves this out.
     ghost held: { Self → Option (List ℕ) } = { λ _. None };
 
     /// Takes a piece.
@@ -75,7 +75,7 @@ pub trait TextSink {
     /// Returns the number of bytes that the sink holds, or `None` if it can't take them again.
     #[inline(always)]
     fn held_len(&self) -> Option<usize>
-        ensures copies { IfSome result (λ n. copies ≡ true) }
+        ensures laws { IfSome result (λ n. HoldingLaws took failed room held) }
         ensures length { IfSome result (HasLength (held self.now)) }
     {
         None
@@ -87,7 +87,7 @@ pub trait TextSink {
     fn put_again(&mut self, start: usize, len: usize) -> bool
         requires ready { failed self.old ≡ false }
         requires within { IfSome (held self.old) (λ bytes. start + len ≤ length bytes) }
-        ensures copies { result ≡ true → copies ≡ true }
+        ensures laws { result ≡ true → HoldingLaws took failed room held }
         ensures copied { result ≡ true → TakesAgain took (held self.old) start len self.old self.new }
         ensures room { result ≡ true → room self.new ≡ room_after len (room self.old) }
         ensures not_failed { failed self.new ≡ false }
@@ -102,12 +102,4 @@ pub trait TextSink {
 
     ghost took_joined: { (s t u : Self) (xs ys : List ℕ) →
         took s xs t → took t ys u → took s (xs ++ ys) u };
-
-    // What is held grows by what is taken.
-    ghost took_held: { (s t : Self) (xs : List ℕ) → took s xs t → Grows (held s) xs (held t) };
-
-    // A sink that takes bytes again could have taken them in two parts.
-    ghost took_split: { (s u : Self) (xs ys : List ℕ) → copies ≡ true → failed s ≡ false →
-        took s (xs ++ ys) u → (t : Self) × took s xs t × took t ys u × (failed t ≡ false)
-        × (room t ≡ room_after (length xs) (room s)) };
 }

@@ -2,7 +2,7 @@
 ghost use Rattle.std.specs.Prelude.{◌≡◌, ◌+◌, ◌-◌, ◌<◌, ◌≤◌, ◌⊎◌, [], ◌∷◌, length, max, true, false, None, IfNone, IfSome, OnOk};
 ghost use Rattle.demangle_sink.specs.Sink.{HasLength};
 ghost use Rattle.demangle_sink.specs.PutsPieces.{PutsPieces};
-ghost use Rattle.demangle_sink.specs.Limit.{Counts, Follows, GivesBack, Prints, FollowsAgain, IsOver, PutsAgain, Ready, allowing, and_one, followed, unused};
+ghost use Rattle.demangle_sink.specs.Limit.{Counts, Follows, GivesBack, Prints, FollowsAgain, Holds, IsOver, PutsAgain, Ready, allowing, and_one, followed, unused};
 
 use crate::{SinkRefused, TextSink};
 
@@ -176,11 +176,15 @@ impl<'s, S: TextSink> SizeLimitedFmtAdapter<'s, S> {
     }
 
     /// Allows so many more bytes to be passed to the sink. In all, at most `usize::MAX` are left.
-    pub fn allow_more(&mut self, bytes: usize)
+    /// Returns whether no fewer were allowed.
+    pub fn allow_more(&mut self, bytes: usize) -> bool
         ensures allowed { self.new ≡ allowing (self.new.remaining - self.old.remaining) self.old }
         ensures most { self.new.remaining ≤ self.old.remaining + bytes }
+        ensures all { result ≡ true → self.new.remaining ≡ self.old.remaining + bytes }
     {
-        self.remaining = self.remaining.saturating_add(bytes);
+        let before = self.remaining;
+        self.remaining = before.saturating_add(bytes);
+        self.remaining - before == bytes
     }
 
     /// Counts the bytes that a reference may make the parser read again, and one more.
@@ -239,7 +243,7 @@ impl<'s, S: TextSink> SizeLimitedFmtAdapter<'s, S> {
     /// Returns the number of bytes that the sink holds, or `None` if it can't take them again.
     #[inline(always)]
     pub fn held_len(&self) -> Option<usize>
-        ensures copies { IfSome result (λ n. S.copies ≡ true) }
+        ensures laws { IfSome result (λ n. Holds S.TextSink) }
         ensures length { IfSome result (HasLength (S.held self.now.out.now)) }
     {
         self.out.held_len()

@@ -3,8 +3,7 @@ ghost use Rattle.std.specs.Prelude.{◌≡◌, ◌≤◌, ◌+◌, ◌-◌, [], 
 ghost use Rattle.std.proofs.Common.{◌∙◌};
 ghost use Rattle.std.below.core.specs.declared.int.usize.TheConstants.{MAX};
 ghost use Rattle.demangle_sink.specs.Sink.{IsWithin, room_after};
-ghost use Rattle.demangle_sink.specs.Slice.{overlay, overlay_from, held_text, WrittenPart, WrittenPart-nothing, WrittenPart-joined, WrittenPart-first, WrittenPart-second};
-ghost use Rattle.demangle_sink.specs.HeldTexts.{held_more, room_first};
+ghost use Rattle.demangle_sink.specs.Slice.{overlay, overlay_from, held_text, WrittenPart, WrittenPart-nothing, WrittenPart-joined};
 
 use crate::{SinkRefused, TextSink};
 
@@ -167,8 +166,6 @@ impl<'b> TextSink for SliceSink<'b> {
 
     ghost keeps = { true };
 
-    ghost copies = { true };
-
     ghost held = { λ s. held_text s.start s.len s.out.now };
 
     #[inline(always)]
@@ -209,17 +206,4 @@ impl<'b> TextSink for SliceSink<'b> {
 
     ghost took_joined = { λ s t u xs ys h k.
         (k.0 ∙ h.0, k.1 ∙ h.1, WrittenPart-joined _ _ _ _ _ _ _ _ xs ys h.1 h.2 k.2) };
-
-    ghost took_held = { λ s t xs h. held_more s.start t.start s.len t.len s.out.now t.out.now xs h.1 h.2 };
-
-    ghost took_split = { λ s u xs ys c a h. (
-      record s {
-        out = record s.out { now = overlay_from (s.len - s.start) s.out.now (drop (s.start - s.len) xs) };
-        len = s.len + length xs;
-      },
-      (refl, refl, WrittenPart-first s.start s.out.now s.len xs),
-      (h.0, h.1, WrittenPart-second s.start s.out.now s.len xs ys u.out.now u.len h.2),
-      a,
-      room_first s.len (length xs),
-    ) };
 }

@@ -68,8 +68,4 @@ impl<'w, W: Write> TextSink for WriteSink<'w, W> {
     ghost took_nothing = { λ s. (refl, Wrote-nothing (W.contents s.out.now)) };
 
     ghost took_joined = { λ s t u xs ys h k. (k.0 ∙ h.0, Wrote-joined _ _ _ xs ys h.1 k.1) };
-
-    ghost took_held = { λ s t xs h. tt };
-
-    ghost took_split = { λ s u xs ys c a h. cc c };
 }

@@ -1,4 +1,7 @@
--- The productions of v0 symbols (RFC 2603), and the texts that each prints.
+-- The productions of v0 symbols, and the texts that each prints.
+--
+-- A row is one of Rust RFC 2603, unless it names another source. That is the rustc book, in its chapter on the v0
+-- symbol format, or the crate: rustc-demangle 0.1.28, which alone has the row.
 use Rattle.std.specs.Prelude.{ℕ, Bool, true, false, ◌||◌, if◌then◌else◌, ◌==◌, List, [], ◌∷◌, ◌++◌, Option, Some, None, codes, decimal}
 use Rattle.std.specs.Fmt.{digits}
 use lib.Utf8.{scalar}
@@ -143,7 +146,7 @@ parameters = print_str "fn(" (list ", " type_inside (print_str ")" returns))
 abbrev pub function : Bool → Items
 function unsafe = function_qualifiers unsafe parameters
 
--- the value of a binding: a constant or a type
+-- the value of a binding: a constant (of the rustc book) or a type
 abbrev pub binding_value : Items
 binding_value = next (code "K") (child a_constant false done) type_inside
 
@@ -152,6 +155,7 @@ abbrev pub after_tag : List (String × Items) → List (String × Items)
 after_tag [] = []
 after_tag (r ∷ rs) = (r.0, byte (λ _. r.1)) ∷ after_tag rs
 
+-- `W`, a pattern type, is of the rustc book.
 abbrev pub type_rows : ℕ → List (String × Items)
 type_rows tag = (
   "RQ",
@@ -186,6 +190,7 @@ trait_path =
     (next (code "I") (child a_path false (print_str "<" (arguments (leave_open done))))
     (child a_path false done))
 
+-- `R` and `O` are of the rustc book, and `N` is of the crate.
 abbrev pub pattern_rows : List (String × Items)
 pattern_rows =
     ("R", child a_constant false (print_str "..=" (child a_constant false done)))
@@ -224,6 +229,7 @@ string = nibbles (λ h. some_or invalid (string_of h) (λ cs. print_all (literal
 abbrev pub field : Items
 field = disambiguator (λ _. identifier (λ a. print_name a (print_str ": " constant_inside)))
 
+-- These are of the crate.
 abbrev pub variant_rows : Items → List (String × Items)
 variant_rows p =
     ("U", p)
@@ -234,6 +240,8 @@ variant_rows p =
 abbrev pub variant : Items → ℕ → Items
 variant p tag = row_of tag invalid (variant_rows p)
 
+-- The RFC has the placeholder `p`, a type with its value, and `B`. The values of `b` and `c` are of the rustc book.
+-- Of the crate are the strings `e` and `Re`, the references `R` and `Q`, the arrays `A`, the tuples `T`, and `V`.
 abbrev pub constant_rows : Bool → ℕ → List (String × Items)
 constant_rows value tag =
     ("p", print_str "_" done)
@@ -253,7 +261,7 @@ constant_rows value tag =
 abbrev pub constant : Bool → ℕ → Items
 constant value tag = row_of tag invalid (constant_rows value tag)
 
--- the items of a production, by its kind
+-- The items of a production, by its kind. The `w` before a type is of the crate. It is for splat, an unstable feature.
 abbrev pub items : Kind → Bool → Items
 items a_path value = raise (byte (path value))
 items a_type value = next (code "w") (print_str "#[splat] " type_tagged) type_tagged

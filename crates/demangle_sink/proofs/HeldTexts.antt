@@ -1,7 +1,7 @@
 -- The text that a slice holds, after more of it was written: statements with their proofs.
-use Rattle.std.specs.Prelude.{nat_le, IfSome}
+use Rattle.std.specs.Prelude.{IfSome}
 use Rattle.std.specs.List.{copy_within, slice_range}
-use Rattle.std.proofs.Common.{◌≡◌, ℕ, zero, suc, ◌+◌, ◌-◌, ◌≤◌, true, List, ◌∷◌, ◌++◌, length, take, drop, Some, sym, ap, subst, ◌∙◌, arith, inl, inr, leb}
+use Rattle.std.proofs.Common.{◌≡◌, ℕ, zero, suc, ◌+◌, ◌-◌, ◌≤◌, true, List, ◌++◌, length, take, drop, Some, sym, ap, subst, ◌∙◌, arith, inl, inr, leb}
 use Rattle.std.below.core.specs.declared.int.usize.TheConstants.{MAX}
 use Rattle.std.proofs.Math.Seq.{take-append-add, take-append_seam}
 use Rattle.std.proofs.lemmas.List.{append_assoc, take_all, length-append, length-take, length-take-le, length-drop, take-take, drop-drop, drop-take}
