@@ -12,9 +12,9 @@ use Rattle.demangle_v0_parser.specs.Traces.{frame_of, then_frame, trace_at, trac
 use Rattle.demangle_v0_parser.specs.Steps.{Machine, Env, machine, CanRead, Performs, PerformsRest, PerformsAt, StepPart, StepResult, rest}
 use Rattle.demangle_v0_parser.specs.Measure.{Fits}
 use Rattle.demangle_v0_parser.specs.Loops.{StepDone}
-use Rattle.demangle_v0_parser.specs.Parsers.{Followed, NamesFollow, Performed, PerformedAs, PerformedRest, Placed, Same, env_of, looked, machine_of, machine_over, restacked}
+use Rattle.demangle_v0_parser.specs.Parsers.{Followed, NamesFollow, Performed, PerformedRest, PerformedSteps, Placed, env_of, looked, machine_of, machine_over, restacked}
 use Rattle.demangle_v0_parser.specs.Productions.{crate_path}
-use Rattle.demangle_v0_parser.specs.StepRuns.{PerformsLast, Runs, bare, name_frames, raised}
+use Rattle.demangle_v0_parser.specs.StepRuns.{PerformsLast, Runs, bare, name_frames, raised, runs_on, starts, then_resumes, then_step}
 use Rattle.demangle_v0_tokens.specs.declared.fixed_texts.FixedText.{FixedText}
 use Rattle.demangle_v0_tokens.specs.declared.fixed_texts.FixedText.TheVariants as fixed
 use Rattle.demangle_v0_parser.specs.declared.Continuation.{Continuation}
@@ -31,7 +31,6 @@ use Rattle.demangle_v0_parser.proofs.LoopLemmas.{step_continues}
 use Rattle.demangle_v0_parser.proofs.PathSteps.{nested_continues, path_as, path_tagged, path_untagged}
 use Rattle.demangle_v0_parser.proofs.StepCases.{ends, marks, text_step}
 use Rattle.demangle_v0_parser.proofs.StepRules.{kept_none}
-use Rattle.demangle_v0_parser.proofs.StepRuns.{runs_none, runs_resume, runs_step}
 
 -- one more frame
 pub frames_more : (v : Bool) (n outer k : ℕ) → name_frames v n outer (k + 1) ≡ name_frames v n outer k ++ frame_of continuation.NestedName v 118 (outer - k - 1) n ∷ []
@@ -149,18 +148,18 @@ module _ {V : Type 0} {e : Env V} where
   end_performs {t} k = marks continuation.End (rw k refl) (omega arith) (omega arith) tt
 
   -- the path in the nested ones is complete
-  pub inner_runs : {p at : Continuation} {before mid : Machine V} {below frames : List Frame} (u : Machine V) → Runs e p (bare before) at mid → before.stack ≡ below → mid.stack ≡ frames → u.state.pending_text ≡ None
+  pub inner_runs : {p at : Continuation} {before mid : Machine V} {below frames : List Frame} (u : Machine V) → Runs e p (bare before) at mid → runs_on at ≡ true → before.stack ≡ below → mid.stack ≡ frames → u.state.pending_text ≡ None
       → PerformsAt e at (raised before.stack mid) (Ok continuation.End) (record u { stack = below ++ frames }) → Runs e p (bare before) continuation.End (record u { stack = frames })
-  inner_runs {p} {at} {before} {mid} {below} {frames} u x s m no_text d =
+  inner_runs {p} {at} {before} {mid} {below} {frames} u x on s m no_text d =
       let same : below ++ frames ≡ before.stack ++ mid.stack = rw (s, m) refl in
       let moved : PerformsAt e at mid (Ok continuation.End) (record u { stack = mid.stack }) = performs_moved same mid.stack d in
       let one : StepDone e at mid (Ok continuation.End) (record u { stack = mid.stack }) = unpended no_text (step_continues {x = u.output} moved (rw no_text (refl, refl)) (omega arith)) in
-      subst (λ (ys : List Frame). Runs e p (bare before) continuation.End (record u { stack = ys })) m (runs_step x (λ k. d.ready k refl) one)
+      subst (λ (ys : List Frame). Runs e p (bare before) continuation.End (record u { stack = ys })) m (then_step x on one (λ k. d.ready k refl))
 
   -- the frame of a nested path resumes
   pub name_resumes : {p : Continuation} (before u : Machine V) (outer left : ℕ) → Runs e p (bare before) continuation.End (record u { stack = name_frames u.state.in_value u.state.lifetimes outer (left + 1) })
       → Runs e p (bare before) continuation.NestedName (record u { state = record u.state { letter = 118; depth_left = outer - left - 1 }; stack = name_frames u.state.in_value u.state.lifetimes outer left })
-  name_resumes before u outer left x = runs_resume (name_frames u.state.in_value u.state.lifetimes outer left) (frame_of continuation.NestedName u.state.in_value 118 (outer - left - 1) u.state.lifetimes) x (frames_more u.state.in_value u.state.lifetimes outer left)
+  name_resumes before u outer left x = then_resumes (name_frames u.state.in_value u.state.lifetimes outer left) (frame_of continuation.NestedName u.state.in_value 118 (outer - left - 1) u.state.lifetimes) x (frames_more u.state.in_value u.state.lifetimes outer left)
 
   -- one more name
   pub name_runs : {p : Continuation} (before u w : Machine V) (outer left : ℕ) → Runs e p (bare before) continuation.End (record u { stack = name_frames u.state.in_value u.state.lifetimes outer (left + 1) })
@@ -170,7 +169,7 @@ module _ {V : Type 0} {e : Env V} where
       let frames = name_frames u.state.in_value u.state.lifetimes outer left in
       let moved = performs_moved k frames d in
       let one : StepDone e continuation.NestedName (record u { state = record u.state { letter = 118; depth_left = outer - left - 1 }; stack = frames }) (Ok continuation.End) (record w { stack = frames }) = unpended no_text (step_continues {x = w.output} moved (rw no_text (refl, refl)) (omega arith)) in
-      runs_step (name_resumes before u outer left x) (λ z. d.ready z refl) one
+      then_step (name_resumes before u outer left x) refl one (λ z. d.ready z refl)
 
   -- a step over the tag and the namespace of such a path
   pub name_step : {t : Machine V} (i letter j k : ℕ) → t.state.place ≡ Some i → 0 < t.state.depth_left → Some (78, j) ≡ byte_at e.symbol i → Some (letter, k) ≡ namespace_at e.symbol j → is_upper letter ≡ false → t.state.pending_text ≡ None → Fits continuation.Path t.state.depth_left t.state.lifetimes
@@ -197,11 +196,11 @@ module _ {V : Type 0} {e : Env V} where
 
   -- a single continuation
   pub performs_one : {p : Continuation} {t u : Machine V} {r : Result Continuation StepError} → PerformsAt e p t r u → PerformsLast e p t r u
-  performs_one {p} {t} {u} {r} d = record { at = p; mid = bare t; runs = runs_none; does = subst (λ (zs : List Frame). PerformsAt e p (record t { stack = zs }) r u) (sym (append-nil t.stack)) d }
+  performs_one {p} {t} {u} {r} d = record { at = p; mid = bare t; runs = starts; does = subst (λ (zs : List Frame). PerformsAt e p (record t { stack = zs }) r u) (sym (append-nil t.stack)) d }
 
--- a continuation that is not deferred
-pub alone : {V : Type 0} {defers : Bool} {output : Ghosts V} {p : Continuation} {m k : Parser} {v w : V} {r : Result Continuation StepError} → Performed output p m v r k w → PerformedAs defers output p m v r k w
-alone d = (performs_one d.does, λ z. d, d.same, d.does.grows, d.does.own_looks)
+-- a single step
+pub alone : {V : Type 0} {output : Ghosts V} {p : Continuation} {m k : Parser} {v w : V} {r : Result Continuation StepError} → Performed output p m v r k w → PerformedSteps output p m v r k w
+alone d = record { steps = performs_one d.does; ready = d.does.ready; if_ok = d.does.if_ok; same = d.same; grows = d.does.grows; own_looks = d.does.own_looks }
 
 -- The names of a parser's nested paths, whose frames are not on its stack.
 module _ {V : Type 0} (output : Ghosts V) where
@@ -269,7 +268,7 @@ module _ {V : Type 0} (output : Ghosts V) where
       let whole : m.state.depth_left ≡ m.state.depth_left - 0 = omega arith in
       subst (λ (d : ℕ). Runs env continuation.Path (bare (machine_of m v)) continuation.Path (machine (record m.state { depth_left = d; place = Some at }) (frames_of m m.state.depth_left 0) v m.looks)) whole
       (subst (λ (ys : List Frame). Runs env continuation.Path (bare (machine_of m v)) continuation.Path (machine (record m.state { place = Some at }) ys v m.looks)) (sym (frames_none m.state.in_value m.state.lifetimes m.state.depth_left))
-      (subst (λ (i : Place). Runs env continuation.Path (bare (machine_of m v)) continuation.Path (machine (record m.state { place = i }) [] v m.looks)) k runs_none))
+      (subst (λ (i : Place). Runs env continuation.Path (bare (machine_of m v)) continuation.Path (machine (record m.state { place = i }) [] v m.looks)) k starts))
 
   -- one more nested path begins
   pub begins_more : (m : Parser) (v : V) (outer count at next letter after l : ℕ) → Begins m v outer count at l → 0 < outer - count → Some (78, next) ≡ byte_at m.source.symbol.now at → Some (letter, after) ≡ namespace_at m.source.symbol.now next → is_upper letter ≡ false → m.state.pending_text ≡ None
@@ -279,7 +278,7 @@ module _ {V : Type 0} (output : Ghosts V) where
       name_step at letter next after refl left tag namespace plain no_text fits in
       let deeper : outer - count - 1 ≡ outer - (count + 1) = omega arith in
       subst (λ (ys : List Frame). Runs (env_of output m) continuation.Path (bare (machine_of m v)) continuation.Path (machine (record m.state { depth_left = outer - (count + 1); place = Some after }) ys v (l + 2))) (sym (frames_more m.state.in_value m.state.lifetimes outer count))
-      (subst (λ (d : ℕ). Runs (env_of output m) continuation.Path (bare (machine_of m v)) continuation.Path (machine (record m.state { depth_left = d; place = Some after }) (frames_of m outer count ++ frame_of continuation.NestedName m.state.in_value 118 (outer - count - 1) m.state.lifetimes ∷ []) v (l + 2))) deeper (runs_step x (λ k. k) one))
+      (subst (λ (d : ℕ). Runs (env_of output m) continuation.Path (bare (machine_of m v)) continuation.Path (machine (record m.state { depth_left = d; place = Some after }) (frames_of m outer count ++ frame_of continuation.NestedName m.state.in_value 118 (outer - count - 1) m.state.lifetimes ∷ []) v (l + 2))) deeper (then_step x refl one (λ k. k)))
 
   -- the machine above the stack of the parser
   abbrev pub deep : Parser → V → ℕ → ℕ → ℕ → ℕ → Machine V
@@ -292,19 +291,6 @@ module _ {V : Type 0} (output : Ghosts V) where
   -- it is the last of the steps
   pub deep_last : (m z : Parser) (v w : V) (outer count at l : ℕ) (r : Result Continuation StepError) → Begins m v outer count at l → Deep m v outer count at l r z w → PerformsLast (env_of output m) continuation.Path (machine_of m v) r (machine_of z w)
   deep_last m z v w outer count at l r x d = record { at = continuation.Path; mid = begun m v outer count at l; runs = x; does = d }
-
-  -- it is the only one if no nested path was deferred
-  pub deep_alone : (m z : Parser) (v w : V) (outer count at l : ℕ) (r : Result Continuation StepError) → outer ≡ m.state.depth_left → count ≡ 0 → m.state.place ≡ Some at → l ≡ m.looks → Same m z → Deep m v outer count at l r z w → Performed output continuation.Path m v r z w
-  deep_alone m z v w outer count at l r levels none place looks same d =
-      let whole : outer - count ≡ m.state.depth_left = omega arith in
-      let frames : m.stack.frames ++ frames_of m outer count ≡ m.stack.frames = ap (λ (ys : List Frame). m.stack.frames ++ ys) (ap (frames_of m outer) none ∙ frames_none m.state.in_value m.state.lifetimes outer) ∙ append-nil m.stack.frames in
-      record {
-        does = subst (λ (n : ℕ). PerformsAt (env_of output m) continuation.Path (machine m.state m.stack.frames v n) r (machine_of z w)) looks
-            (subst (λ (ys : List Frame). PerformsAt (env_of output m) continuation.Path (machine m.state ys v l) r (machine_of z w)) frames
-            (subst (λ (i : Place). PerformsAt (env_of output m) continuation.Path (machine (record m.state { place = i }) (m.stack.frames ++ frames_of m outer count) v l) r (machine_of z w)) (sym place)
-            (subst (λ (n : ℕ). PerformsAt (env_of output m) continuation.Path (machine (record m.state { depth_left = n; place = Some at }) (m.stack.frames ++ frames_of m outer count) v l) r (machine_of z w)) whole d)));
-        same = same;
-      }
 
   -- its frames were pushed before that, and it has no tag
   pub deep_untagged : (m z : Parser) (v : V) (outer count at l n : ℕ) → 0 < outer - count → None ≡ byte_at m.source.symbol.now at → n ≡ l + 1 → m.state.pending_text ≡ None → z ≡ restacked (looked m n) (m.stack.frames ++ frames_of m outer count) → Deep m v outer count at l (Err (Abort fixed.Invalid)) z v
@@ -380,4 +366,4 @@ module _ {V : Type 0} (output : Ghosts V) where
       let same : m.stack.frames ++ frames_of m outer count ≡ k.stack.frames ++ frames_of k outer count = ap (λ (ys : List Frame). ys ++ frames_of m outer count) (sym stack) ∙ ap (λ (ys : List Frame). k.stack.frames ++ ys) frames in
       let over : PerformsAt (env_of output m) continuation.Path (deep m v outer count at l) performed (machine_over (k.stack.frames ++ frames_of k outer count) k w) =
       subst (λ (ys : List Frame). PerformsAt (env_of output m) continuation.Path (deep m v outer count at l) performed (machine_over ys k w)) same (inner_deep m k v w outer count at tag next l n performed left read look d placed) in
-      rw source at (follow continuation.Path continuation.Path (machine_of m v) (begun m v outer count at l) (rw source x) (sym stack) frames (rw source over))
+      rw source at (follow continuation.Path continuation.Path (machine_of m v) (begun m v outer count at l) (rw source x) refl (sym stack) frames (rw source over))

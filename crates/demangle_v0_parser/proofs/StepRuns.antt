@@ -1,12 +1,13 @@
 -- Steps that one method performs in sequence.
 use Rattle.std.proofs.Common.{◌≡◌, ℕ, ◌+◌, ◌≤◌, ◌<◌, false, List, [], ◌∷◌, ◌++◌, length, Result, Ok, Err, refl, arith, sym, ap, ◌∙◌, subst, append_assoc, length-append}
+use Rattle.std.proofs.lemmas.Bool.{false≢true}
 use Rattle.std.proofs.lemmas.List.{append-nil}
 use Rattle.demangle_v0_grammar.specs.LookTotals.{allowed_in}
 use Rattle.demangle_v0_grammar.specs.Traces.{Trace}
 use Rattle.demangle_v0_parser.specs.Loops.{RanSteps, StepDone, StoppedAfter, ResumesAt, pops, Valid, Reads, ReadDone, trace_left}
 use Rattle.demangle_v0_parser.specs.Measure.{measure, weight_at, weight_left, AllInner}
 use Rattle.demangle_v0_parser.specs.Steps.{Env, Machine, resumed_of}
-use Rattle.demangle_v0_parser.specs.StepRuns.{full_measure, raised, bare, Runs, StepsDone}
+use Rattle.demangle_v0_parser.specs.StepRuns.{full_measure, raised, bare, Runs, starts, then_step, then_resumes, StepsDone, runs_on}
 use Rattle.demangle_v0_parser.specs.Parsers.{Same, env_of}
 use Rattle.demangle_v0_parser.specs.Traces.{pushed_on}
 use Rattle.demangle_v0_parser.specs.declared.parse.Parser.{Parser}
@@ -34,6 +35,12 @@ full_weight : (p : Continuation) → weight_at p ≤ weight_left p + 1
 full_weight continuation.End = omega arith
 full_weight p = omega arith
 
+-- the frame on top resumes, above the frames below
+top_resumes : {V : Type 0} (u : Machine V) (now : List Frame) (f : Frame) → u.stack ≡ now ++ f ∷ [] → (below : List Frame) → ResumesAt 0 continuation.End u.state (below ++ u.stack) f.continuation (resumed_of u.state f) (below ++ now)
+top_resumes u now f k below =
+    let over : below ++ u.stack ≡ (below ++ now) ++ f ∷ [] = ap (λ (ys : List Frame). below ++ ys) k ∙ sym (append_assoc below now (f ∷ [])) in
+    pops f refl (omega (arith, ap length over, length-append {A = Frame} (below ++ now) (f ∷ []))) over refl refl
+
 module _ {V : Type 0} {e : Env V} where
   -- a step lowers the measure
   step_lighter : {p q : Continuation} {t u : Machine V} (z : StepDone e p t (Ok q) u) (above : List Frame) → measure e.symbol e.form e.output.is_printed q u.state (pushed_on above z.steps.0.pushed) < full_measure e p t.state above
@@ -48,46 +55,65 @@ module _ {V : Type 0} {e : Env V} where
         bits_total e d.prefix d.emitted d.back,
       )
 
-  pub runs_none : {p : Continuation} {t : Machine V} → Runs e p t p t
-  runs_none = record { ran = λ below. ran_none; valid = λ below v. v; lighter = λ below. omega arith; inner = λ k i. i; ready = λ k. k }
+  -- what one more step leaves on the stack
+  stack_after : {p q : Continuation} {t u : Machine V} (z : StepDone e p t (Ok q) u) (below : List Frame) → pushed_on (below ++ t.stack) z.steps.0.pushed ≡ below ++ u.stack
+  stack_after {t = t} z below = pushed_above below t.stack z.steps.0.pushed ∙ ap (λ (ys : List Frame). below ++ ys) (sym z.steps.0.is_stack)
 
-  -- one more step
-  pub runs_step : {p q r : Continuation} {t u w : Machine V} → Runs e p t q u → (e.output.ready u.output → e.output.ready w.output) → StepDone e q u (Ok r) w → Runs e p t r w
-  runs_step {p} {q} {r} {t} {u} {w} x ready z =
+  -- What a run does, whatever frames are below those of both.
+
+  pub run_steps : {p : Continuation} {t : Machine V} {q : Continuation} {u : Machine V} → Runs e p t q u → (below : List Frame) → RanSteps e p (raised below t) q (raised below u)
+  run_steps starts below = ran_none
+  run_steps (then_step {mid = mid} {after = after} x on z ready) below = ran_then (run_steps x below) (restacked_ran after (stack_after z below) (ran_step z (below ++ mid.stack)))
+  run_steps (then_resumes {mid = mid} now f x k) below = ran_then (run_steps x below) (ran_resumes (top_resumes mid now f k below))
+
+  pub run_valid : {p : Continuation} {t : Machine V} {q : Continuation} {u : Machine V} → Runs e p t q u → (below : List Frame) → Valid p t.state (below ++ t.stack) → Valid q u.state (below ++ u.stack)
+  run_valid starts below v = v
+  run_valid (then_step {at = at} {q = q} {mid = mid} {after = after} x on z ready) below v =
       let d = z.steps.0 in
-      let over : (below : List Frame) → pushed_on (below ++ u.stack) d.pushed ≡ below ++ w.stack = λ (below : List Frame). pushed_above below u.stack d.pushed ∙ ap (λ (ys : List Frame). below ++ ys) (sym d.is_stack) in
-      record {
-        ran = λ below. ran_then (x.ran below) (restacked_ran w (over below) (ran_step z (below ++ u.stack)));
-        valid = λ below v. subst (Valid r w.state) (over below) (valid_push q r u.state w.state (below ++ u.stack) d.pushed (x.valid below v) d.outer_height d.inner_height d.outer_fits d.inner_fits z.steps.1);
-        lighter = λ below. omega (arith, x.lighter below, step_lighter z (below ++ u.stack), full_weight r, ap (measure e.symbol e.form e.output.is_printed r w.state) (over below));
-        inner = λ k i. subst AllInner (sym d.is_stack) (inner_pushed u.stack d.pushed (x.inner k i) (d.no_output k));
-        ready = λ k. ready (x.ready k);
-      }
+      subst (Valid q after.state) (stack_after z below) (valid_push at q mid.state after.state (below ++ mid.stack) d.pushed (run_valid x below v) d.outer_height d.inner_height d.outer_fits d.inner_fits z.steps.1)
+  run_valid (then_resumes {mid = mid} now f x k) below v = valid_resumes (run_valid x below v) (top_resumes mid now f k below)
 
-  -- the frame on top resumes after a production
-  pub runs_resume : {p : Continuation} {t u : Machine V} (now : List Frame) (f : Frame) → Runs e p t continuation.End u → u.stack ≡ now ++ f ∷ [] → Runs e p t f.continuation (record u { state = resumed_of u.state f; stack = now })
-  runs_resume {p} {t} {u} now f x k =
-      let over : (below : List Frame) → below ++ u.stack ≡ (below ++ now) ++ f ∷ [] = λ (below : List Frame). ap (λ (ys : List Frame). below ++ ys) k ∙ sym (append_assoc below now (f ∷ [])) in
-      let resumes : (below : List Frame) → ResumesAt 0 continuation.End u.state (below ++ u.stack) f.continuation (resumed_of u.state f) (below ++ now) =
-      λ (below : List Frame). pops f refl (omega (arith, ap length (over below), length-append {A = Frame} (below ++ now) (f ∷ []))) (over below) refl refl in
-      record {
-        ran = λ below. ran_then (x.ran below) (ran_resumes (resumes below));
-        valid = λ below v. valid_resumes (x.valid below v) (resumes below);
-        lighter = λ below. omega (arith, x.lighter below, resume_light (resumes below), ap (λ (h : Trace). allowed_in h.events) (resumes_trace e.symbol e.form e.output.is_printed (resumes below)));
-        inner = λ z i. inner_below now f (subst AllInner k (x.inner z i));
-        ready = x.ready;
-      }
+  pub run_lighter : {p : Continuation} {t : Machine V} {q : Continuation} {u : Machine V} → Runs e p t q u → (below : List Frame) → full_measure e q u.state (below ++ u.stack) ≤ full_measure e p t.state (below ++ t.stack)
+  run_lighter starts below = omega arith
+  run_lighter (then_step {q = q} {mid = mid} {after = after} x on z ready) below = omega (arith, run_lighter x below, step_lighter z (below ++ mid.stack), full_weight q, ap (measure e.symbol e.form e.output.is_printed q after.state) (stack_after z below))
+  run_lighter (then_resumes {mid = mid} now f x k) below =
+      let resumes = top_resumes mid now f k below in
+      omega (arith, run_lighter x below, resume_light resumes, ap (λ (h : Trace). allowed_in h.events) (resumes_trace e.symbol e.form e.output.is_printed resumes))
+
+  pub run_inner : {p : Continuation} {t : Machine V} {q : Continuation} {u : Machine V} → Runs e p t q u → e.output.is_printed ≡ false → AllInner t.stack → AllInner u.stack
+  run_inner starts n i = i
+  run_inner (then_step {mid = mid} x on z ready) n i =
+      let d = z.steps.0 in
+      subst AllInner (sym d.is_stack) (inner_pushed mid.stack d.pushed (run_inner x n i) (d.no_output n))
+  run_inner (then_resumes now f x k) n i = inner_below now f (subst AllInner k (run_inner x n i))
+
+  pub run_ready : {p : Continuation} {t : Machine V} {q : Continuation} {u : Machine V} → Runs e p t q u → e.output.ready t.output → e.output.ready u.output
+  run_ready starts r = r
+  run_ready (then_step x on z ready) r = ready (run_ready x r)
+  run_ready (then_resumes now f x k) r = run_ready x r
 
   -- The last step, and the loops.
 
   pub runs_ran : {p q : Continuation} {t u : Machine V} → Runs e p (bare t) q u → RanSteps e p t q (raised t.stack u)
-  runs_ran {p} {q} {t} {u} x = subst (λ (zs : List Frame). RanSteps e p (record t { stack = zs }) q (raised t.stack u)) (at_top t.stack) (x.ran t.stack)
+  runs_ran {p} {q} {t} {u} x = subst (λ (zs : List Frame). RanSteps e p (record t { stack = zs }) q (raised t.stack u)) (at_top t.stack) (run_steps x t.stack)
 
   pub runs_valid : {p q : Continuation} {t u : Machine V} → Runs e p (bare t) q u → Valid p t.state t.stack → Valid q u.state (t.stack ++ u.stack)
-  runs_valid {p} {q} {t} {u} x v = x.valid t.stack (subst (Valid p t.state) (sym (at_top t.stack)) v)
+  runs_valid {p} {q} {t} {u} x v = run_valid x t.stack (subst (Valid p t.state) (sym (at_top t.stack)) v)
 
   pub steps_valid : {p q : Continuation} {t u : Machine V} → Valid p t.state t.stack → StepsDone e p t (Ok q) u → Valid q u.state u.stack
   steps_valid v z = valid_steps (runs_valid z.runs v) z.done
+
+  run_alone : (t : Machine V) {p q : Continuation} {u : Machine V} → Runs e p (bare t) q u → runs_on p ≡ false → (q ≡ p) × (u ≡ bare t)
+  run_alone t starts n = (refl, refl)
+  run_alone t (then_step x on z ready) n = let k = run_alone t x n in absurd (false≢true (sym n ∙ (ap runs_on (sym k.0) ∙ on)))
+  run_alone t (then_resumes now f x k) n = absurd (omega (arith, ap (λ (m : Machine V). length m.stack) (run_alone t x n).1, ap length k, length-append {A = Frame} now (f ∷ [])))
+
+  -- any other continuation than a path or a name is run in one step
+  pub steps_alone : {p : Continuation} {t u : Machine V} {r : Result Continuation SinkRefused} → runs_on p ≡ false → StepsDone e p t r u → StepDone e p t r u
+  steps_alone {p} {t} {u} {r} n z =
+      let k = run_alone t z.runs n in
+      subst (λ (zs : List Frame). StepDone e p (record t { stack = zs }) r u) (at_top t.stack)
+      (subst (λ (m : Machine V). StepDone e p (raised t.stack m) r u) k.1 (subst (λ (a : Continuation). StepDone e a (raised t.stack z.mid) r u) k.0 z.done))
 
   -- one iteration lowers the measure
   pub steps_less : {base : ℕ} {p q r : Continuation} {s : State} {stack : List Frame} {t u : Machine V} → ResumesAt base p s stack q t.state t.stack → StepsDone e q t (Ok r) u
@@ -98,7 +124,7 @@ module _ {V : Type 0} {e : Env V} where
         arith,
         resume_light x,
         ap (λ (h : Trace). allowed_in h.events) (resumes_trace e.symbol e.form e.output.is_printed x),
-        z.runs.lighter t.stack,
+        run_lighter z.runs t.stack,
         ap (full_measure e q t.state) (at_top t.stack),
         step_lighter z.done below,
         ap (measure e.symbol e.form e.output.is_printed r u.state) z.done.steps.0.is_stack,
@@ -120,11 +146,11 @@ module _ {V : Type 0} {e : Env V} where
       let d = z.done.steps.0 in
       let own = y.frames ++ z.mid.stack in
       let split : mid ++ z.mid.stack ≡ below ++ own = ap (λ (ys : List Frame). ys ++ z.mid.stack) y.is_stack ∙ append_assoc below y.frames z.mid.stack in
-      let before : RanSteps e q (record t { state = s; stack = y.frames }) z.at (raised y.frames z.mid) = subst (λ (zs : List Frame). RanSteps e q (record t { state = s; stack = zs }) z.at (raised y.frames z.mid)) (at_top y.frames) (z.runs.ran y.frames) in
+      let before : RanSteps e q (record t { state = s; stack = y.frames }) z.at (raised y.frames z.mid) = subst (λ (zs : List Frame). RanSteps e q (record t { state = s; stack = zs }) z.at (raised y.frames z.mid)) (at_top y.frames) (run_steps z.runs y.frames) in
       record {
         frames = pushed_on own d.pushed;
         is_stack = d.is_stack ∙ (ap (λ (ys : List Frame). pushed_on ys d.pushed) split ∙ pushed_above below own d.pushed);
-        inner = inner_pushed own d.pushed (inner_joined y.frames z.mid.stack y.inner (z.runs.inner without_output tt)) (d.no_output without_output);
+        inner = inner_pushed own d.pushed (inner_joined y.frames z.mid.stack y.inner (run_inner z.runs without_output tt)) (d.no_output without_output);
         ran = ran_then y.ran (ran_then before (ran_step z.done own));
       }
 
@@ -136,11 +162,11 @@ module _ {V : Type 0} {e : Env V} where
       let d = z.done.steps in
       let own = y.frames ++ z.mid.stack in
       let split : mid ++ z.mid.stack ≡ below ++ own = ap (λ (ys : List Frame). ys ++ z.mid.stack) y.is_stack ∙ append_assoc below y.frames z.mid.stack in
-      let before : RanSteps e q (record t { state = s; stack = y.frames }) z.at (raised y.frames z.mid) = subst (λ (zs : List Frame). RanSteps e q (record t { state = s; stack = zs }) z.at (raised y.frames z.mid)) (at_top y.frames) (z.runs.ran y.frames) in
+      let before : RanSteps e q (record t { state = s; stack = y.frames }) z.at (raised y.frames z.mid) = subst (λ (zs : List Frame). RanSteps e q (record t { state = s; stack = zs }) z.at (raised y.frames z.mid)) (at_top y.frames) (run_steps z.runs y.frames) in
       record {
         reads = (
           record { at = z.at; mid = raised mid z.mid; stack = own; end = w; ran = ran_then y.ran before; halts = d.0; same_output = refl; same_looks = refl },
-          inner_joined y.frames z.mid.stack y.inner (z.runs.inner without_output tt),
+          inner_joined y.frames z.mid.stack y.inner (run_inner z.runs without_output tt),
           (own ++ d.1.0, d.1.1 ∙ (ap (λ (ys : List Frame). ys ++ d.1.0) split ∙ append_assoc below own d.1.0)),
         );
       }

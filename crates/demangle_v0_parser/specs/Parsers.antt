@@ -1,6 +1,6 @@
 -- Internal: no public contract cites this.
 -- The effect of continuations on a parser.
-use Rattle.std.specs.Prelude.{◌≡◌, ℕ, ◌+◌, ◌-◌, ◌*◌, ◌<◌, ◌≤◌, Bool, false, ◌&&◌, Option, List, [], ◌++◌, length, Some, None, Result, Ok}
+use Rattle.std.specs.Prelude.{◌≡◌, ℕ, ◌+◌, ◌-◌, ◌*◌, ◌<◌, ◌≤◌, Bool, true, false, ◌&&◌, Option, List, [], ◌++◌, length, Some, None, Result, Ok, Err, IsOk}
 use Rattle.demangle_v0_grammar.specs.Traces.{Trace}
 use Rattle.demangle_v0_grammar.specs.Reading.{Place}
 use Rattle.demangle_v0_grammar.specs.Items.{Items, Kind}
@@ -15,7 +15,7 @@ use Rattle.demangle_sink.specs.declared.limit.SizeLimitedFmtAdapter.{SizeLimited
 use Rattle.demangle_v0_parser.specs.Productions.{brace_after}
 use Rattle.demangle_v0_parser.specs.Measure.{AllInner}
 use Rattle.demangle_v0_parser.specs.Steps.{Performs, PerformsAt, Env, CanEmit, CanRead, CanStep, StepPart, Machine, env, rest, machine, step_looks_bound, whole}
-use Rattle.demangle_v0_parser.specs.StepRuns.{PerformsLast, Runs, bare, name_frames, raised}
+use Rattle.demangle_v0_parser.specs.StepRuns.{PerformsLast, Runs, bare, name_frames, raised, runs_on}
 use Rattle.demangle_v0_parser.specs.Traces.{pushed_on, remaining_trace}
 use Rattle.demangle_v0_parser.specs.Loops.{Valid, ReadDone, Skipped, StopsInPart, PrintDone, ValidUnfinished, Finishes, Ended, first_looks, first_state, looks_left, printing, no_output_env, no_output_machine}
 use Rattle.demangle_v0_parser.specs.Productions.{IsProduction, target_part}
@@ -23,6 +23,7 @@ use Rattle.demangle_v0_parser.specs.declared.Continuation.{Continuation}
 use Rattle.demangle_v0_parser.specs.declared.Continuation.TheVariants as continuation
 use Rattle.demangle_v0_parser.specs.declared.State.{State}
 use Rattle.demangle_v0_parser.specs.declared.StepError.{StepError}
+use Rattle.demangle_v0_parser.specs.declared.StepError.TheVariants.{Abort}
 use Rattle.demangle_v0_parser.specs.Frames.{on_top}
 use Rattle.demangle_v0_parser.specs.declared.frames.Frame.{Frame}
 use Rattle.demangle_v0_parser.specs.declared.fuel.Fuel.{Fuel}
@@ -136,10 +137,14 @@ machine_over stack m v = machine m.state stack v m.looks
 abbrev pub PerformedLast : {V : Type 0} → Ghosts V → Continuation → Parser → V → Result Continuation StepError → Parser → V → Type 0
 PerformedLast output p m v result k w = PerformsLast (env_of output m) p (machine_of m v) result (machine_of k w)
 
--- the same, which is the effect of that continuation alone if nothing is deferred
-abbrev pub PerformedAs : {V : Type 0} → Bool → Ghosts V → Continuation → Parser → V → Result Continuation StepError → Parser → V → Type 0
-PerformedAs defers output p m v result k w =
-    PerformedLast output p m v result k w × (defers ≡ false → Performed output p m v result k w) × Same m k × (m.looks ≤ k.looks) × (k.looks ≤ m.looks + step_looks_bound m.source.symbol.now m.state.place)
+-- the same, in no more looks than one step makes
+pub record PerformedSteps {V : Type 0} (output : Ghosts V) (p : Continuation) (m : Parser) (v : V) (result : Result Continuation StepError) (k : Parser) (w : V) : Type 0 where
+  pub steps : PerformedLast output p m v result k w
+  pub ready : output.ready v → IsOk result → output.ready w
+  pub if_ok : output.ready v → (x : FixedText) → result ≡ Err (Abort x) → output.ready w
+  pub same : Same m k
+  pub grows : m.looks ≤ k.looks
+  pub own_looks : k.looks ≤ m.looks + step_looks_bound m.source.symbol.now m.state.place
 
 -- The frames of `count` nested paths are not on the stack of `k`, which is after the path in them. The names of these
 -- paths lead to the result at `m`.
@@ -151,7 +156,7 @@ NamesEnd {V = V} output count outer k v result m w =
 abbrev pub NamesFollow : {V : Type 0} → Ghosts V → Result Continuation StepError → ℕ → ℕ → Parser → V → Result Continuation StepError → Parser → V → Type 0
 NamesFollow {V = V} output performed count outer k v result m w =
     let frames = name_frames k.state.in_value k.state.lifetimes outer count in
-    (p at : Continuation) (before mid : Machine V) → Runs (env_of output k) p (bare before) at mid → before.stack ≡ k.stack.frames → mid.stack ≡ frames
+    (p at : Continuation) (before mid : Machine V) → Runs (env_of output k) p (bare before) at mid → runs_on at ≡ true → before.stack ≡ k.stack.frames → mid.stack ≡ frames
     → PerformsAt (env_of output k) at (raised before.stack mid) performed (machine_over (k.stack.frames ++ frames) k v) → PerformsLast (env_of output k) p before result (machine_of m w)
 
 -- when a token may be printed

@@ -1,11 +1,11 @@
 -- Internal: no public contract cites this.
 -- Steps that one method performs in sequence, and the frames that they need not push.
-use Rattle.std.specs.Prelude.{◌≡◌, ℕ, zero, suc, ◌*◌, ◌+◌, ◌-◌, ◌≤◌, Bool, false, List, [], ◌∷◌, ◌++◌, Result}
+use Rattle.std.specs.Prelude.{◌≡◌, ℕ, zero, suc, ◌*◌, ◌+◌, ◌-◌, Bool, true, false, List, [], ◌∷◌, ◌++◌, Result, Ok}
 use Rattle.demangle_sink.specs.declared.SinkRefused.{SinkRefused}
-use Rattle.demangle_v0_parser.specs.Loops.{RanSteps, StepDone, Valid}
+use Rattle.demangle_v0_parser.specs.Loops.{StepDone}
 use Rattle.demangle_v0_grammar.specs.LookTotals.{allowed_in}
-use Rattle.demangle_v0_parser.specs.Measure.{AllInner, weight_at, weights}
-use Rattle.demangle_v0_parser.specs.Steps.{Env, Machine, PerformsAt}
+use Rattle.demangle_v0_parser.specs.Measure.{weight_at, weights}
+use Rattle.demangle_v0_parser.specs.Steps.{Env, Machine, PerformsAt, resumed_of}
 use Rattle.demangle_v0_parser.specs.Traces.{frame_of, remaining_trace}
 use Rattle.demangle_v0_parser.specs.declared.Continuation.{Continuation}
 use Rattle.demangle_v0_parser.specs.declared.Continuation.TheVariants as continuation
@@ -25,13 +25,20 @@ bare t = record t { stack = [] }
 abbrev pub full_measure : {V : Type 0} → Env V → Continuation → State → List Frame → ℕ
 full_measure env p s stack = weight_at p + weights stack + 100 * allowed_in (remaining_trace env.symbol env.form env.output.is_printed p s stack).events
 
--- Steps lead from `before` to `after`, whatever frames are below those of both.
-pub record Runs {V : Type 0} (env : Env V) (p : Continuation) (before : Machine V) (q : Continuation) (after : Machine V) : Type 0 where
-  pub ran : (below : List Frame) → RanSteps env p (raised below before) q (raised below after)
-  pub valid : (below : List Frame) → Valid p before.state (below ++ before.stack) → Valid q after.state (below ++ after.stack)
-  pub lighter : (below : List Frame) → full_measure env q after.state (below ++ after.stack) ≤ full_measure env p before.state (below ++ before.stack)
-  pub inner : env.output.is_printed ≡ false → AllInner before.stack → AllInner after.stack
-  pub ready : env.output.ready before.output → env.output.ready after.output
+-- only the step of a path or of a name may be followed by another one of the same run
+abbrev pub runs_on : Continuation → Bool
+runs_on continuation.Path = true
+runs_on continuation.NestedName = true
+runs_on _ = false
+
+-- Steps lead from `before` to `after`, one after another. Each of them is a step of its own (`StepDone`), so it prints at
+-- most one token. After the end of a production the frame on top resumes.
+pub data Runs {V : Type 0} (env : Env V) (p : Continuation) (before : Machine V) : Continuation → Machine V → Type 0 where
+  starts : Runs env p before p before
+  then_step : {at q : Continuation} {mid after : Machine V} → Runs env p before at mid → runs_on at ≡ true → StepDone env at mid (Ok q) after
+      → (env.output.ready mid.output → env.output.ready after.output) → Runs env p before q after
+  then_resumes : {mid : Machine V} (now : List Frame) (f : Frame) → Runs env p before continuation.End mid → mid.stack ≡ now ++ f ∷ []
+      → Runs env p before f.continuation (record mid { state = resumed_of mid.state f; stack = now })
 
 -- after such steps a last continuation is performed
 pub record PerformsLast {V : Type 0} (env : Env V) (p : Continuation) (before : Machine V) (result : Result Continuation StepError) (after : Machine V) : Type 0 where

@@ -3,7 +3,7 @@
 
 ghost use Rattle.std.specs.Prelude.{◌≡◌, ◌+◌, ◌≤◌, true, false, IsOk};
 ghost use Rattle.demangle_v0_parser.specs.Skips.{is_skipped};
-ghost use Rattle.demangle_v0_parser.specs.Parsers.{PerformedAs, CanPerform, Paced};
+ghost use Rattle.demangle_v0_parser.specs.Parsers.{PerformedSteps, CanPerform, Paced};
 ghost use Rattle.demangle_v0_parser.specs.Loops.{first_looks};
 
 use crate::constant_lists::ConstantList;
@@ -15,28 +15,27 @@ use crate::{Continuation, StepError};
 use demangle_v0_tokens::output::Output;
 
 impl Parser<'_, '_> {
-    /// Performs a continuation, and returns the one to run next. If `defers` is true, a path is
-    /// performed with those that are nested in one another, and with their names.
+    /// Performs a continuation, and returns the one to run next. A path is performed with those that
+    /// are nested in one another, and with their names.
     ///
     /// An impl path and folded arguments are only read here if nothing is printed.
     #[inline(always)]
     pub(super) fn dispatch<V: Output>(
         &mut self,
         continuation: Continuation,
-        defers: bool,
         output: &mut V,
     ) -> Result<Continuation, StepError>
         requires can_step { CanPerform V.Output continuation self.old output.old }
         requires unskipped { V.is_printed ≡ true → is_skipped
             self.old.source.form continuation ≡ false }
-        ensures performs { PerformedAs defers V.Output continuation self.old output.old result
+        ensures performs { PerformedSteps V.Output continuation self.old output.old result
             self.new output.new }
         ensures least { continuation ≡ Continuation.Path → self.old.looks +
             first_looks Continuation.Path self.old.state ≤ self.new.looks }
         ensures paced { IsOk result → Paced 20 self.old self.new }
     {
         match continuation {
-            Continuation::Path => self.path(defers, output),
+            Continuation::Path => self.path(output),
             Continuation::NestedName => self.nested_name(output),
             Continuation::InherentImplPath => Ok(self.read_impl_path(false)),
             Continuation::TraitImplPath => Ok(self.read_impl_path(true)),

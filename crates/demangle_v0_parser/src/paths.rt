@@ -1,8 +1,8 @@
 //! Continuations of paths.
 #![tactic(auto, using(crate::proofs::Pace::place_left))]
 
-ghost use Rattle.std.specs.Prelude.{◌≡◌, ◌+◌, ◌≤◌, false, IsOk, Ok};
-ghost use Rattle.demangle_v0_parser.specs.Parsers.{Performed, PerformedLast, PerformedRest, CanPerform, CanAdvance, AdvancedRest, Paced, Same};
+ghost use Rattle.std.specs.Prelude.{◌≡◌, ◌+◌, ◌≤◌, IsOk, Ok};
+ghost use Rattle.demangle_v0_parser.specs.Parsers.{PerformedLast, PerformedRest, CanPerform, CanAdvance, AdvancedRest, Paced, Same};
 ghost use Rattle.demangle_v0_parser.specs.Steps.{step_looks_bound};
 ghost use Rattle.demangle_v0_parser.specs.Loops.{first_looks};
 ghost use Rattle.demangle_v0_grammar.specs.Table.{path};
@@ -52,24 +52,18 @@ impl Parser<'_, '_> {
 
     /// Reads the tag of a path, and starts the path one level deeper.
     ///
-    /// If `defers` is true, the tags of paths that are nested in one another are read together, up to
-    /// a namespace in upper case or until the stack is nearly full. If they end at a crate, the names
-    /// are read and printed after its own, and without output also after a back reference. Otherwise
-    /// a frame is pushed for each of them.
+    /// The tags of paths that are nested in one another are read together, up to a namespace in upper
+    /// case or until the stack is nearly full. If they end at a crate, the names are read and printed
+    /// after its own, and without output also after a back reference. Otherwise a frame is pushed for
+    /// each of them.
     ///
     /// Fails if a part that it reads has an error, if the depth is used up, or if the output rejects
     /// a piece.
     // Most paths are nested in two or three others, and their names need no steps of their own.
     #[inline(always)]
-    pub(super) fn path<V: Output>(
-        &mut self,
-        defers: bool,
-        output: &mut V,
-    ) -> Result<Continuation, StepError>
+    pub(super) fn path<V: Output>(&mut self, output: &mut V) -> Result<Continuation, StepError>
         requires can_step { CanPerform V.Output Continuation.Path self.old output.old }
         ensures performs { PerformedLast V.Output Continuation.Path self.old output.old result self.new output.new }
-        ensures single { defers ≡ false → Performed V.Output Continuation.Path self.old output.old
-            result self.new output.new }
         ensures same { Same self.old self.new }
         ensures grows { self.old.looks ≤ self.new.looks }
         ensures least { self.old.looks + first_looks Continuation.Path self.old.state ≤ self.new.looks }
@@ -109,10 +103,7 @@ impl Parser<'_, '_> {
                 self.push_names(count, outer);
                 return Err(StepError::Abort(FixedText::Invalid));
             };
-            if !defers
-                | letter.is_ascii_uppercase()
-                | (self.stack.room_left() <= usize::from(count) + 1)
-            {
+            if letter.is_ascii_uppercase() | (self.stack.room_left() <= usize::from(count) + 1) {
                 self.push_names(count, outer);
                 self.state.depth_left = left;
                 self.state.place = Some(after);

@@ -4,7 +4,7 @@
 ghost use Rattle.std.specs.Prelude.{◌≡◌, ◌+◌, ◌≤◌, true, false, IfSome, IfNone, IsOk, OnOk, length, IsAscii};
 ghost use Rattle.demangle_v0_parser.specs.Parsers.{CanPerform, Same, env_of, restated, machine_of, Paced};
 ghost use Rattle.demangle_v0_parser.specs.Steps.{looks_bound, resumed_of};
-ghost use Rattle.demangle_v0_parser.specs.Loops.{FlushesText, StepDone, ResumesAt, first_looks, without_pending_text};
+ghost use Rattle.demangle_v0_parser.specs.Loops.{FlushesText, ResumesAt, first_looks, without_pending_text};
 ghost use Rattle.demangle_v0_parser.specs.Skips.{is_skipped};
 ghost use Rattle.demangle_v0_parser.specs.StepRuns.{StepsDone};
 
@@ -56,8 +56,8 @@ impl Parser<'_, '_> {
     }
 
     /// Runs a continuation, which may read and print a token, and prints the fixed text that it
-    /// queued. Returns the next continuation. If `defers` is true, a path is run together with those
-    /// that are nested in one another, and with their names.
+    /// queued. Returns the next continuation. A path is run together with those that are nested in
+    /// one another, and with their names, one step after another.
     ///
     /// Fails if the output does. A parse that prints never runs an impl path or folded arguments
     /// here, because those are not printed.
@@ -65,7 +65,6 @@ impl Parser<'_, '_> {
     pub fn steps<V: Output>(
         &mut self,
         continuation: Continuation,
-        defers: bool,
         output: &mut V,
     ) -> Result<Continuation, SinkRefused>
         requires can_step { CanPerform V.Output continuation self.old output.old }
@@ -73,8 +72,6 @@ impl Parser<'_, '_> {
             self.old.source.form continuation ≡ false }
         ensures stepped { StepsDone (env_of V.Output self.old) continuation (machine_of self.old output.old)
             result (machine_of self.new output.new) }
-        ensures single { defers ≡ false → StepDone (env_of V.Output self.old) continuation
-            (machine_of self.old output.old) result (machine_of self.new output.new) }
         ensures same { Same self.old self.new }
         ensures ready { IsOk result → V.ready output.new }
         ensures grows { self.old.looks ≤ self.new.looks }
@@ -83,7 +80,7 @@ impl Parser<'_, '_> {
         ensures least { self.old.looks + first_looks continuation self.old.state ≤ self.new.looks }
         ensures paced { IsOk result → Paced 20 self.old self.new }
     {
-        match self.dispatch(continuation, defers, output) {
+        match self.dispatch(continuation, output) {
             Ok(next) => {
                 self.flush_pending_text(output)?;
                 Ok(next)

@@ -9,10 +9,20 @@ use Rattle.demangle_v0_parser.proofs.Parsers.{unless_both, advanced, advanced_wi
 use Rattle.demangle_v0_parser.proofs.BackrefSteps.{constant_target, path_target, stays_over, type_target}
 use Rattle.demangle_v0_parser.proofs.TypeSteps.{type_point}
 use Rattle.demangle_v0_parser.proofs.NestedNames.{alone}
+use Rattle.demangle_v0_parser.proofs.StepRuns.{run_ready}
 use Rattle.demangle_v0_parser.proofs.parse.Parser.dispatch.Goals as goal
 
 pub returns-in-Path-clause-performs : goal.returns-in-Path-clause-performs
-returns-in-Path-clause-performs g c = rw c.in-Path.is (c.path.ensures.performs, c.path.ensures.single, c.path.ensures.same, c.path.ensures.grows, c.path.ensures.own_looks)
+returns-in-Path-clause-performs g c =
+    let d = c.path.ensures.performs in
+    rw c.in-Path.is (record {
+      steps = d;
+      ready = λ r ok. d.does.ready (run_ready d.runs r) ok;
+      if_ok = λ r x is. d.does.if_ok (run_ready d.runs r) x is;
+      same = c.path.ensures.same;
+      grows = c.path.ensures.grows;
+      own_looks = c.path.ensures.own_looks;
+    })
 
 pub returns-in-Lifetime-clause-performs : goal.returns-in-Lifetime-clause-performs
 returns-in-Lifetime-clause-performs g c = alone (rw c.in-Lifetime.is c.out_of_line.ensures.performs)

@@ -5,13 +5,13 @@ use Rattle.demangle_v0_parser.proofs.NestedNames.{inner_runs}
 use Rattle.demangle_v0_parser.proofs.parse.Parser.names_after.Goals as goal
 
 pub returns-in-Ok-clause-follow : goal.returns-in-Ok-clause-follow
-returns-in-Ok-clause-follow g c p at before mid x below frames d =
+returns-in-Ok-clause-follow g c p at before mid x on below frames d =
     let m = c.args.self.now in
     let ends : c.args.performed ≡ Ok continuation.End = rw c.in-Ok.is (ap Ok (rw c.in-Ok.is at c.requires.ends)) in
-    c.plain_names.ensures.end p before (inner_runs (machine_of m c.args.output.now) x below frames c.requires.no_pending_text (rw ends at d)) below
+    c.plain_names.ensures.end p before (inner_runs (machine_of m c.args.output.now) x on below frames c.requires.no_pending_text (rw ends at d)) below
 
 pub returns-in-Err-clause-follow : goal.returns-in-Err-clause-follow
-returns-in-Err-clause-follow g c p at before mid x below frames d = record {
+returns-in-Err-clause-follow g c p at before mid x on below frames d = record {
   at = at;
   mid = mid;
   runs = x;

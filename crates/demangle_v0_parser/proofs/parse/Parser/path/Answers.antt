@@ -1,4 +1,4 @@
-use Rattle.std.proofs.Common.{◌≡◌, ◌+◌, ◌<◌, Bool, true, not, ◌&&◌, ◌||◌, Some, None, Result, Ok, Err, IsOk, IsErr, false, length, arith, refl, sym, subst, ap, ◌∙◌, length-append}
+use Rattle.std.proofs.Common.{◌≡◌, ◌+◌, ◌<◌, Bool, true, ◌&&◌, ◌||◌, Some, None, Result, Ok, Err, IsOk, IsErr, false, length, arith, refl, sym, subst, ap, ◌∙◌, length-append}
 use Rattle.std.proofs.lemmas.Bool.{false≢true, eqb-true, leb-false, not-true}
 use Rattle.demangle_symbol.specs.Primitives.{byte_at, namespace_at, is_upper}
 use Rattle.demangle_v0_tokens.specs.declared.fixed_texts.FixedText.TheVariants as fixed
@@ -15,7 +15,7 @@ use Rattle.demangle_v0_parser.specs.declared.parse.Parser.{Parser}
 use Rattle.demangle_v0_parser.proofs.Pace.{place_left}
 use Rattle.demangle_v0_parser.proofs.StepErrors.{stops}
 use Rattle.demangle_v0_parser.proofs.StepCases.{after_error}
-use Rattle.demangle_v0_parser.proofs.NestedNames.{Deep, backref_inner, begins, begins_more, crate_inner, in_crate, inner_last, deep_alone, deep_crate, deep_last, deep_nested, deep_other, deep_too_deep, deep_unnamed, deep_untagged, frames_length, performs_one}
+use Rattle.demangle_v0_parser.proofs.NestedNames.{Deep, backref_inner, begins, begins_more, crate_inner, in_crate, inner_last, deep_crate, deep_last, deep_nested, deep_other, deep_too_deep, deep_unnamed, deep_untagged, frames_length, performs_one}
 use Rattle.demangle_v0_parser.proofs.parse.Parser.path.Given.{Over}
 use Rattle.demangle_v0_parser.proofs.parse.Parser.path.Goals as goal
 
@@ -23,14 +23,10 @@ pub returns-in_err-at-clause-performs : goal.returns-in_err-at-clause-performs
 unfolding trace_at
 returns-in_err-at-clause-performs g c = performs_one (rw (stops c.from_residual.result c.from_residual.ensures.1 c.in_err-at.ensures.failed.1) (after_error c.requires.can_step.no_pending_text (rw c.in_err-at.ensures.failed.0 refl) (omega arith)))
 
-pub returns-in_err-at-clause-single : goal.returns-in_err-at-clause-single
-unfolding trace_at
-returns-in_err-at-clause-single g c z = record { does = rw (stops c.from_residual.result c.from_residual.ensures.1 c.in_err-at.ensures.failed.1) (after_error c.requires.can_step.no_pending_text (rw c.in_err-at.ensures.failed.0 refl) (omega arith)); same = (refl, refl, refl) }
-
 pub paths-init : goal.paths-init
 paths-init g c =
     let m = c.args.self.now in
-    record { bound = omega arith; levels = refl; room = omega (arith, c.requires.can_step.room); parser = refl; output = refl; looks = omega arith; pace = omega (arith, place_left (length m.source.symbol.now) _ c.in_ok-at.at c.in_ok-at.ensures.ok); ran = begins g.V.Output m c.args.output.now c.in_ok-at.at c.in_ok-at.ensures.ok; alone = λ z. (refl, c.in_ok-at.ensures.ok, refl) }
+    record { bound = omega arith; levels = refl; room = omega (arith, c.requires.can_step.room); parser = refl; output = refl; looks = omega arith; pace = omega (arith, place_left (length m.source.symbol.now) _ c.in_ok-at.at c.in_ok-at.ensures.ok); ran = begins g.V.Output m c.args.output.now c.in_ok-at.at c.in_ok-at.ensures.ok }
 
 both_false : (x y : Bool) → x || y ≡ false → (x ≡ false) × (y ≡ false)
 both_false false y h = (refl, h)
@@ -47,11 +43,6 @@ untagged-clause-performs g c =
 pub returns-in_default-clause-performs : goal.returns-in_default-clause-performs
 returns-in_default-clause-performs g c = rw c.paths.invariant.output (deep_last g.V.Output c.args.self.now c.push_names.new.self c.args.output.now c.args.output.now c.args.self.now.state.depth_left c.paths.count c.paths.at c.paths.self.looks (Err (Abort fixed.Invalid)) c.paths.invariant.ran (untagged-clause-performs g c))
 
-pub returns-in_default-clause-single : goal.returns-in_default-clause-single
-returns-in_default-clause-single g c z =
-    let alone = c.paths.invariant.alone z in
-    rw c.paths.invariant.output (deep_alone g.V.Output c.args.self.now c.push_names.new.self c.args.output.now c.args.output.now c.args.self.now.state.depth_left c.paths.count c.paths.at c.paths.self.looks (Err (Abort fixed.Invalid)) refl alone.0 alone.1 alone.2 (rw (c.push_names.ensures, c.paths.invariant.parser) (refl, refl, refl)) (untagged-clause-performs g c))
-
 -- The path of a crate.
 
 crate-alone-clause-performs : (g : Over) (c : goal.Then-count-eq0 g) → Deep g.V.Output c.args.self.now c.args.output.now c.args.self.now.state.depth_left c.paths.count c.paths.at c.paths.self.looks c.crate_name-performed.result c.crate_name-performed.new.self c.crate_name-performed.new.output
@@ -63,11 +54,6 @@ crate-alone-clause-performs g c =
 
 pub returns-then-count-eq0-clause-performs : goal.returns-then-count-eq0-clause-performs
 returns-then-count-eq0-clause-performs g c = deep_last g.V.Output c.args.self.now c.crate_name-performed.new.self c.args.output.now c.crate_name-performed.new.output c.args.self.now.state.depth_left c.paths.count c.paths.at c.paths.self.looks c.crate_name-performed.result c.paths.invariant.ran (crate-alone-clause-performs g c)
-
-pub returns-then-count-eq0-clause-single : goal.returns-then-count-eq0-clause-single
-returns-then-count-eq0-clause-single g c z =
-    let alone = c.paths.invariant.alone z in
-    deep_alone g.V.Output c.args.self.now c.crate_name-performed.new.self c.args.output.now c.crate_name-performed.new.output c.args.self.now.state.depth_left c.paths.count c.paths.at c.paths.self.looks c.crate_name-performed.result refl alone.0 alone.1 alone.2 (rw c.paths.invariant.parser at c.crate_name-performed.ensures.performs.same) (crate-alone-clause-performs g c)
 
 pub returns-then-tag-eq67-clause-performs : goal.returns-then-tag-eq67-clause-performs
 returns-then-tag-eq67-clause-performs g c =
@@ -106,9 +92,6 @@ returns-then-tag-eq67-clause-own_looks g c =
     ) (λ err.
     omega (arith, rw c.paths.invariant.parser at c.crate_name-performed.ensures.most, c.names_after.ensures.stopped err, c.paths.invariant.pace, c.tag.ensures.look, within, left)
     ))
-
-pub returns-then-tag-eq67-clause-single : goal.returns-then-tag-eq67-clause-single
-returns-then-tag-eq67-clause-single g c z = absurd (c.if-count-eq0.false (c.paths.invariant.alone z).0)
 
 -- A back reference, without output.
 
@@ -153,11 +136,6 @@ otherwise-clause-performs g c =
 pub returns-then-tag-ne78-clause-performs : goal.returns-then-tag-ne78-clause-performs
 returns-then-tag-ne78-clause-performs g c = deep_last g.V.Output c.args.self.now c.tagged_path.new.self c.args.output.now c.tagged_path.new.output c.args.self.now.state.depth_left c.paths.count c.paths.at c.paths.self.looks c.tagged_path.result c.paths.invariant.ran (otherwise-clause-performs g c)
 
-pub returns-then-tag-ne78-clause-single : goal.returns-then-tag-ne78-clause-single
-returns-then-tag-ne78-clause-single g c z =
-    let alone = c.paths.invariant.alone z in
-    deep_alone g.V.Output c.args.self.now c.tagged_path.new.self c.args.output.now c.tagged_path.new.output c.args.self.now.state.depth_left c.paths.count c.paths.at c.paths.self.looks c.tagged_path.result refl alone.0 alone.1 alone.2 (rw (c.push_names-then-tag-ne78.ensures, c.paths.invariant.parser) at c.tagged_path.ensures.performs.same) (otherwise-clause-performs g c)
-
 -- A nested path.
 
 unnamed-clause-performs : (g : Over) (c : goal.After-push_names-in_default-namespace g) → Deep g.V.Output c.args.self.now c.args.output.now c.args.self.now.state.depth_left c.paths.count c.paths.at c.paths.self.looks (Err (Abort fixed.Invalid)) c.push_names-in_default-namespace.new.self c.args.output.now
@@ -171,19 +149,14 @@ unnamed-clause-performs g c =
 pub returns-in_default-namespace-clause-performs : goal.returns-in_default-namespace-clause-performs
 returns-in_default-namespace-clause-performs g c = rw c.paths.invariant.output (deep_last g.V.Output c.args.self.now c.push_names-in_default-namespace.new.self c.args.output.now c.args.output.now c.args.self.now.state.depth_left c.paths.count c.paths.at c.paths.self.looks (Err (Abort fixed.Invalid)) c.paths.invariant.ran (unnamed-clause-performs g c))
 
-pub returns-in_default-namespace-clause-single : goal.returns-in_default-namespace-clause-single
-returns-in_default-namespace-clause-single g c z =
-    let alone = c.paths.invariant.alone z in
-    rw c.paths.invariant.output (deep_alone g.V.Output c.args.self.now c.push_names-in_default-namespace.new.self c.args.output.now c.args.output.now c.args.self.now.state.depth_left c.paths.count c.paths.at c.paths.self.looks (Err (Abort fixed.Invalid)) refl alone.0 alone.1 alone.2 (rw (c.push_names-in_default-namespace.ensures, c.paths.invariant.parser) (refl, refl, refl)) (unnamed-clause-performs g c))
-
 pub push_lettered-requires-clause-room : goal.push_lettered-requires-clause-room
 push_lettered-requires-clause-room g c =
     let m = c.args.self.now in
-    rw (c.push_names-then-defers-is_ascii_uppercase.ensures, c.paths.invariant.parser)
+    rw (c.push_names-then-is_ascii_uppercase-room_left.ensures, c.paths.invariant.parser)
     (omega (arith, c.paths.invariant.room, length-append {A = Frame} m.stack.frames (name_frames m.state.in_value m.state.lifetimes m.state.depth_left c.paths.count), frames_length m.state.in_value m.state.lifetimes m.state.depth_left c.paths.count))
 
 pub push_lettered-requires-clause-small : goal.push_lettered-requires-clause-small
-push_lettered-requires-clause-small g c = rw (c.push_names-then-defers-is_ascii_uppercase.ensures, c.paths.invariant.parser) (omega (arith, c.requires.can_step.fits))
+push_lettered-requires-clause-small g c = rw (c.push_names-then-is_ascii_uppercase-room_left.ensures, c.paths.invariant.parser) (omega (arith, c.requires.can_step.fits))
 
 nested-clause-performs : (g : Over) (c : goal.After-push_lettered g) → Deep g.V.Output c.args.self.now c.args.output.now c.args.self.now.state.depth_left c.paths.count c.paths.at c.paths.self.looks (Ok continuation.Path) c.push_lettered.new.self c.args.output.now
 nested-clause-performs g c =
@@ -191,24 +164,18 @@ nested-clause-performs g c =
     let tag : Some (78, c.in-Ok.next) ≡ byte_at m.source.symbol.now c.paths.at = rw (c.paths.invariant.parser, c.in-Ok.is, c.if-tag-ne78.false) at c.tag.ensures.read in
     let namespace : Some (c.in-Ok-namespace.letter, c.in-Ok-namespace.after) ≡ namespace_at m.source.symbol.now c.in-Ok.next = rw (c.paths.invariant.parser, c.in-Ok-namespace.is) at c.namespace.ensures.read in
     deep_nested g.V.Output m c.push_lettered.new.self c.args.output.now m.state.depth_left c.paths.count c.paths.at c.in-Ok.next c.in-Ok-namespace.letter c.in-Ok-namespace.after c.paths.self.looks c.namespace.new.looks (omega (arith, c.paths-test.true)) tag namespace
-    (omega (arith, c.tag.ensures.look, c.namespace.ensures.look)) c.requires.can_step.no_pending_text (omega (arith, c.requires.can_step.fits)) (rw (c.push_names-then-defers-is_ascii_uppercase.ensures, c.paths.invariant.parser) at c.push_lettered.ensures)
+    (omega (arith, c.tag.ensures.look, c.namespace.ensures.look)) c.requires.can_step.no_pending_text (omega (arith, c.requires.can_step.fits)) (rw (c.push_names-then-is_ascii_uppercase-room_left.ensures, c.paths.invariant.parser) at c.push_lettered.ensures)
 
-pub returns-then-defers-is_ascii_uppercase-clause-performs : goal.returns-then-defers-is_ascii_uppercase-clause-performs
-returns-then-defers-is_ascii_uppercase-clause-performs g c = rw c.paths.invariant.output (deep_last g.V.Output c.args.self.now c.push_lettered.new.self c.args.output.now c.args.output.now c.args.self.now.state.depth_left c.paths.count c.paths.at c.paths.self.looks (Ok continuation.Path) c.paths.invariant.ran (nested-clause-performs g c))
-
-pub returns-then-defers-is_ascii_uppercase-clause-single : goal.returns-then-defers-is_ascii_uppercase-clause-single
-returns-then-defers-is_ascii_uppercase-clause-single g c z =
-    let alone = c.paths.invariant.alone z in
-    rw c.paths.invariant.output (deep_alone g.V.Output c.args.self.now c.push_lettered.new.self c.args.output.now c.args.output.now c.args.self.now.state.depth_left c.paths.count c.paths.at c.paths.self.looks (Ok continuation.Path) refl alone.0 alone.1 alone.2 (rw (c.push_lettered.ensures, c.push_names-then-defers-is_ascii_uppercase.ensures, c.paths.invariant.parser) (refl, refl, refl)) (nested-clause-performs g c))
+pub returns-then-is_ascii_uppercase-room_left-clause-performs : goal.returns-then-is_ascii_uppercase-room_left-clause-performs
+returns-then-is_ascii_uppercase-room_left-clause-performs g c = rw c.paths.invariant.output (deep_last g.V.Output c.args.self.now c.push_lettered.new.self c.args.output.now c.args.output.now c.args.self.now.state.depth_left c.paths.count c.paths.at c.paths.self.looks (Ok continuation.Path) c.paths.invariant.ran (nested-clause-performs g c))
 
 pub paths-preserved : goal.paths-preserved
 paths-preserved g c =
     let m = c.args.self.now in
     let tag : Some (78, c.in-Ok.next) ≡ byte_at m.source.symbol.now c.paths.at = rw (c.paths.invariant.parser, c.in-Ok.is, c.if-tag-ne78.false) at c.tag.ensures.read in
     let namespace : Some (c.in-Ok-namespace.letter, c.in-Ok-namespace.after) ≡ namespace_at m.source.symbol.now c.in-Ok.next = rw (c.paths.invariant.parser, c.in-Ok-namespace.is) at c.namespace.ensures.read in
-    let all = both_false _ _ c.if-defers-is_ascii_uppercase.false in
-    let two = both_false _ _ all.0 in
-    let plain : is_upper c.in-Ok-namespace.letter ≡ false = sym c.is_ascii_uppercase.ensures.value ∙ two.1 in
+    let all = both_false _ _ c.if-is_ascii_uppercase-room_left.false in
+    let plain : is_upper c.in-Ok-namespace.letter ≡ false = sym c.is_ascii_uppercase.ensures.value ∙ all.0 in
     let looks : c.namespace.new.looks ≡ c.paths.self.looks + 2 = omega (arith, c.tag.ensures.look, c.namespace.ensures.look) in
     let wide : c.from.result + 1 < c.room_left.result = leb-false _ _ all.1 in
     record {
@@ -220,7 +187,6 @@ paths-preserved g c =
       looks = omega (arith, c.paths.invariant.looks, looks);
       pace = omega (arith, c.paths.invariant.pace, looks, rw c.paths.invariant.parser at c.in-Ok.ensures.within, rw c.paths.invariant.parser at c.in-Ok-namespace.ensures.within);
       ran = rw looks (begins_more g.V.Output m c.args.output.now m.state.depth_left c.paths.count c.paths.at c.in-Ok.next c.in-Ok-namespace.letter c.in-Ok-namespace.after c.paths.self.looks c.paths.invariant.ran (omega (arith, c.paths-test.true)) tag namespace plain c.requires.can_step.no_pending_text (omega (arith, c.requires.can_step.fits)));
-      alone = λ z. absurd (false≢true (sym two.0 ∙ ap not z));
     }
 
 -- No level is left.
@@ -232,11 +198,6 @@ too-deep-clause-performs g c =
 
 pub returns-clause-performs : goal.returns-clause-performs
 returns-clause-performs g c = rw c.paths.invariant.output (deep_last g.V.Output c.args.self.now c.push_names-2.new.self c.args.output.now c.args.output.now c.args.self.now.state.depth_left c.paths.count c.paths.at c.paths.self.looks (Err (Abort fixed.Recursion)) c.paths.invariant.ran (too-deep-clause-performs g c))
-
-pub returns-clause-single : goal.returns-clause-single
-returns-clause-single g c z =
-    let alone = c.paths.invariant.alone z in
-    rw c.paths.invariant.output (deep_alone g.V.Output c.args.self.now c.push_names-2.new.self c.args.output.now c.args.output.now c.args.self.now.state.depth_left c.paths.count c.paths.at c.paths.self.looks (Err (Abort fixed.Recursion)) refl alone.0 alone.1 alone.2 (rw (c.push_names-2.ensures, c.paths.invariant.parser) (refl, refl, refl)) (too-deep-clause-performs g c))
 
 pub names_after-requires-then-tag-count-clause-ready : goal.names_after-requires-then-tag-count-clause-ready
 names_after-requires-then-tag-count-clause-ready g c = λ ok.

@@ -1,5 +1,5 @@
 use Rattle.std.specs.Prelude.{◌*◌}
-use Rattle.std.proofs.Common.{◌≡◌, ◌+◌, ◌-◌, ◌<◌, ◌≤◌, Some, false, length}
+use Rattle.std.proofs.Common.{◌≡◌, ◌+◌, ◌-◌, ◌<◌, ◌≤◌, Some, length}
 use Rattle.demangle_v0_parser.specs.Parsers.{env_of, left_at, looked, machine_of}
 use Rattle.demangle_v0_parser.specs.Steps.{machine}
 use Rattle.demangle_v0_parser.specs.StepRuns.{Runs, bare, name_frames}
@@ -18,7 +18,6 @@ invariant-paths g l =
       looks : m.looks + l.count ≤ l.self.looks;
       pace : l.self.looks + 4 * (length m.source.symbol.now - l.at) + 6 * l.count ≤ m.looks + 4 * left_at (length m.source.symbol.now) m.state.place;
       ran : Runs (env_of g.V.Output m) continuation.Path (bare (machine_of m l.fn.output)) continuation.Path (machine (record m.state { depth_left = l.outer - l.count; place = Some l.at }) (name_frames m.state.in_value m.state.lifetimes l.outer l.count) l.fn.output l.self.looks);
-      alone : l.fn.defers ≡ false → (l.count ≡ 0) × (m.state.place ≡ Some l.at) × (l.self.looks ≡ m.looks);
     }
 
 abbrev pub decreases-paths : goal.decreases-paths
