@@ -24,7 +24,7 @@ use Rattle.demangle_v0_parser.specs.declared.stops.Unfinished.{Unfinished}
 use Rattle.demangle_v0_parser.specs.declared.stops.Unfinished.TheVariants as left
 use Rattle.demangle_v0_parser.proofs.LoopLemmas.{bits_then, pushed_above, ran_none, ran_resumes, ran_step, ran_then}
 use Rattle.demangle_v0_parser.proofs.StackSplit.{above_pop}
-use Rattle.demangle_v0_parser.proofs.StepRuns.{at_top}
+use Rattle.demangle_v0_parser.proofs.StepRuns.{at_top, run_steps}
 
 -- the trace of frames above other ones
 stack_above : (b : List ℕ) (form : Form) (out : Rattle.std.proofs.Common.Bool) (below above : List Frame) (i : Place) (o : Rattle.std.proofs.Common.Bool) → trace_of_stack b form out (below ++ above) i o ≡ and_then (trace_of_stack b form out above i o) (trace_of_stack b form out below)
@@ -86,7 +86,7 @@ module _ {V : Type 0} where
       let d = z.done.steps.0 in
       let own = y.frames ++ z.mid.stack in
       let split : mid ++ z.mid.stack ≡ below ++ own = ap (λ (ys : List Frame). ys ++ z.mid.stack) y.is_stack ∙ append_assoc below y.frames z.mid.stack in
-      let before : RanSteps e q (record t { state = s; stack = y.frames }) z.at (raised y.frames z.mid) = subst (λ (zs : List Frame). RanSteps e q (record t { state = s; stack = zs }) z.at (raised y.frames z.mid)) (at_top y.frames) (z.runs.ran y.frames) in
+      let before : RanSteps e q (record t { state = s; stack = y.frames }) z.at (raised y.frames z.mid) = subst (λ (zs : List Frame). RanSteps e q (record t { state = s; stack = zs }) z.at (raised y.frames z.mid)) (at_top y.frames) (run_steps z.runs y.frames) in
       record {
         frames = pushed_on own d.pushed;
         is_stack = d.is_stack ∙ (ap (λ (ys : List Frame). pushed_on ys d.pushed) split ∙ pushed_above below own d.pushed);
@@ -99,7 +99,7 @@ module _ {V : Type 0} where
   above_broke {e = e} {q = q} {t = t} {w = w} {s = s} {mid = mid} x l k z =
       let y = above_resume x l k in
       let own = y.frames ++ z.mid.stack in
-      let before : RanSteps e q (record t { state = s; stack = y.frames }) z.at (raised y.frames z.mid) = subst (λ (zs : List Frame). RanSteps e q (record t { state = s; stack = zs }) z.at (raised y.frames z.mid)) (at_top y.frames) (z.runs.ran y.frames) in
+      let before : RanSteps e q (record t { state = s; stack = y.frames }) z.at (raised y.frames z.mid) = subst (λ (zs : List Frame). RanSteps e q (record t { state = s; stack = zs }) z.at (raised y.frames z.mid)) (at_top y.frames) (run_steps z.runs y.frames) in
       record { at = z.at; mid = raised mid z.mid; stack = own; end = w; ran = ran_then y.ran before; halts = z.done.steps.0; same_output = refl; same_looks = refl }
 
   -- The whole parse, of which the part above other frames was printed.

@@ -39,7 +39,7 @@ actions_trace (returns p ∷ xs) h = ap (with_end true p) (actions_trace xs h)
 module _ {S : Type 0} (sink : Sinks S) (b : List ℕ) (form : Form) where
   -- a sink that takes bytes again could have taken them in two parts
   abbrev pub SplitLaw : Type 0
-  SplitLaw = (s u : S) (xs ys : List ℕ) → sink.copies ≡ true → sink.failed s ≡ false → sink.took s (xs ++ ys) u → (t : S) × sink.took s xs t × sink.took t ys u × (sink.failed t ≡ false) × (sink.room t ≡ room_after (length xs) (sink.room s))
+  SplitLaw = (s u : S) (xs ys : List ℕ) → sink.failed s ≡ false → sink.took s (xs ++ ys) u → (t : S) × sink.took s xs t × sink.took t ys u × (sink.failed t ≡ false) × (sink.room t ≡ room_after (length xs) (sink.room s))
 
   -- `w` is `v` after the texts and the references of these events. `base` and u bytes are used before, and `top` at once
   -- at most.
@@ -215,9 +215,9 @@ module _ {S : Type 0} (sink : Sinks S) (b : List ℕ) (form : Form) where
   one_piece v mid t name l left reread here took alive room =
       prints_put sink v t (Ok tt) mid name l left reread here (puts_put sink v.out.now t (Ok tt) mid.out.now took alive tt tt (λ f. (refl, room)))
 
-  after_text : SplitLaw → NothingLaw → sink.copies ≡ true → (t : Text) (xs : List Event) (base top u e : ℕ) (v w : SizeLimitedFmtAdapter S) → Sent (prints_text t ∷ xs) base top u e v w
+  after_text : SplitLaw → NothingLaw → (t : Text) (xs : List Event) (base top u e : ℕ) (v w : SizeLimitedFmtAdapter S) → Sent (prints_text t ∷ xs) base top u e v w
       → (mid : SizeLimitedFmtAdapter S) × Prints sink v (t ∷ []) (Ok tt) mid × Sent xs base top u e mid w
-  after_text law none c t xs base top u e v w h = go (texts_in xs) refl
+  after_text law none t xs base top u e v w h = go (texts_in xs) refl
     where
       go : (ts : List Text) → texts_in xs ≡ ts → (mid : SizeLimitedFmtAdapter S) × Prints sink v (t ∷ []) (Ok tt) mid × Sent xs base top u e mid w
       go [] q =
@@ -253,7 +253,7 @@ module _ {S : Type 0} (sink : Sinks S) (b : List ℕ) (form : Form) where
             },
           )
       go (y ∷ ys) q =
-          let split = law v.out.now w.out.now t (concat (texts_in xs)) c h.not_failed h.took in
+          let split = law v.out.now w.out.now t (concat (texts_in xs)) h.not_failed h.took in
           let mid : SizeLimitedFmtAdapter S = record v { out = record v.out { now = split.0 }; remaining = v.remaining - length t; lookups_left = w.lookups_left } in (
             mid,
             one_piece v mid t refl (omega (arith, h.within)) refl refl h.fresh split.1 split.3 split.4,
@@ -286,13 +286,13 @@ module _ {S : Type 0} (sink : Sinks S) (b : List ℕ) (form : Form) where
           none_some k = cc
 
   -- the events happened again
-  pub sent_emits : SplitLaw → NothingLaw → sink.copies ≡ true → (xs : List Event) (base top u e : ℕ) (v w : SizeLimitedFmtAdapter S) → Sent xs base top u e v w → Emitted (printing sink b form) (actions_of xs) v w
-  sent_emits law none c [] base top u e v w h = nothing_left base top u e v w h
-  sent_emits law none c (prints_text t ∷ xs) base top u e v w h = let z = after_text law none c t xs base top u e v w h in (z.0, z.1, sent_emits law none c xs base top u e z.0 w z.2)
-  sent_emits law none c (allows k ∷ xs) base top u e v w h = sent_emits law none c xs base top u e v w (quietly h)
-  sent_emits law none c (refers t ∷ xs) base top u e v w h =
+  pub sent_emits : SplitLaw → NothingLaw → (xs : List Event) (base top u e : ℕ) (v w : SizeLimitedFmtAdapter S) → Sent xs base top u e v w → Emitted (printing sink b form) (actions_of xs) v w
+  sent_emits law none [] base top u e v w h = nothing_left base top u e v w h
+  sent_emits law none (prints_text t ∷ xs) base top u e v w h = let z = after_text law none t xs base top u e v w h in (z.0, z.1, sent_emits law none xs base top u e z.0 w z.2)
+  sent_emits law none (allows k ∷ xs) base top u e v w h = sent_emits law none xs base top u e v w (quietly h)
+  sent_emits law none (refers t ∷ xs) base top u e v w h =
       let z = after_reference t xs base top u e v w h in
-      (record v { reread = once v.reread (length b - t + 1) w.reread.high }, z.0, sent_emits law none c xs base top (u + (length b - t + 1)) e (record v { reread = once v.reread (length b - t + 1) w.reread.high }) w z.1)
-  sent_emits law none c (returns p ∷ xs) base top u e v w h =
+      (record v { reread = once v.reread (length b - t + 1) w.reread.high }, z.0, sent_emits law none xs base top (u + (length b - t + 1)) e (record v { reread = once v.reread (length b - t + 1) w.reread.high }) w z.1)
+  sent_emits law none (returns p ∷ xs) base top u e v w h =
       let z = after_return p xs base top u e v w h in
-      (record v { reread = given_back v.reread (bytes_after (length b) p) }, z.0, sent_emits law none c xs base top (u - bytes_after (length b) p) e (record v { reread = given_back v.reread (bytes_after (length b) p) }) w z.1)
+      (record v { reread = given_back v.reread (bytes_after (length b) p) }, z.0, sent_emits law none xs base top (u - bytes_after (length b) p) e (record v { reread = given_back v.reread (bytes_after (length b) p) }) w z.1)

@@ -1,8 +1,8 @@
 -- What is printed is the same if more bytes may be passed to the sink.
-use Rattle.std.proofs.Common.{◌≡◌, ℕ, ◌+◌, ◌-◌, ◌≤◌, true, false, Option, Some, None, List, [], ◌∷◌, Result, Ok, Err, refl, arith, sym, ap, ◌∙◌, subst}
+use Rattle.std.proofs.Common.{◌≡◌, ℕ, ◌+◌, ◌-◌, ◌≤◌, Option, Some, None, List, [], ◌∷◌, Result, Ok, refl, arith, sym, ap, ◌∙◌, subst}
 use Rattle.std.proofs.lemmas.Bool.{false≢true}
 use Rattle.demangle_sink.specs.Cut.{size, prefix_within}
-use Rattle.demangle_sink.specs.Limit.{Follows, GivesBack, Prints, Ready, allowing, sink_result}
+use Rattle.demangle_sink.specs.Limit.{Prints, Ready, allowing, sink_result}
 use Rattle.demangle_sink.specs.PutsPieces.{PutsPieces}
 use Rattle.demangle_sink.specs.declared.SinkRefused.{SinkRefused}
 use Rattle.demangle_sink.specs.declared.TextSink.{Ghosts as Sinks}
@@ -11,8 +11,8 @@ use Rattle.demangle_sink.proofs.CutLemmas.{fitting-all}
 use Rattle.demangle_v0_grammar.specs.Items.{Text}
 use Rattle.demangle_v0_grammar.specs.Reading.{Form}
 use Rattle.demangle_v0.specs.Attempts.{PrintsPath, PrintsWithMore}
-use Rattle.demangle_v0_parser.specs.Loops.{Emitted, Ended, PrintDone, RanSteps, printing}
-use Rattle.demangle_v0_parser.specs.Steps.{Machine, machine}
+use Rattle.demangle_v0_parser.specs.Loops.{Emitted, Ended, PrintDone, printing}
+use Rattle.demangle_v0_parser.specs.Steps.{machine}
 use Rattle.demangle_v0_parser.specs.Traces.{Action, allows_looks, puts, goes_back, comes_back}
 use Rattle.demangle_v0_parser.specs.declared.Continuation.{Continuation}
 use Rattle.demangle_v0_parser.specs.declared.State.{State}

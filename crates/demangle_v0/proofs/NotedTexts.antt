@@ -10,7 +10,7 @@ use Rattle.std.proofs.lemmas.List.{append-nil, drop-append-le, length-append, le
 use Rattle.std.proofs.lemmas.List.Folds.{concat-append, drop_split}
 use Rattle.std.below.core.specs.declared.int.usize.TheConstants.{MAX}
 use Rattle.demangle_sink.specs.Cut.{prefix_within}
-use Rattle.demangle_sink.specs.Limit.{Counts, Prints, Ready, given_back, sink_result, used_with}
+use Rattle.demangle_sink.specs.Limit.{Counts, Holds, Prints, Ready, given_back, sink_result, used_with}
 use Rattle.demangle_sink.specs.Sink.{Grows, HasLength}
 use Rattle.demangle_sink.specs.declared.TextSink.{Ghosts as Sinks}
 use Rattle.demangle_sink.specs.declared.limit.Reread.{Reread}
@@ -21,7 +21,7 @@ use Rattle.demangle_sink.proofs.PutsPiecesLemmas.{puts_text}
 use Rattle.demangle_sink.specs.PutsPieces.{PutsPieces}
 use Rattle.demangle_v0_grammar.specs.Climbs.{Climbs, Ran, followed_in}
 use Rattle.demangle_v0_grammar.specs.Items.{Kind, Text, a_constant, a_path, a_type}
-use Rattle.demangle_v0_grammar.specs.Reading.{Form, Outcome, Place, max_depth, unit_outcome}
+use Rattle.demangle_v0_grammar.specs.Reading.{Form, Outcome, Place, unit_outcome}
 use Rattle.demangle_v0_grammar.specs.References.{bytes_after}
 use Rattle.demangle_v0_grammar.specs.Traces.{Event, Trace, context_at, empty_trace, events, looks_then, of, refers, returns, texts_in, texts_then, with_looks, with_texts, with_reference, with_end}
 use Rattle.demangle_v0_grammar.proofs.EnoughDepth.{IsEnough}
@@ -161,9 +161,6 @@ module _ {S : Type 0} (sink : Sinks S) (b : List ℕ) (form : Form) where
   abbrev pub JoinedTaken : Type 0
   JoinedTaken = (s t u : S) (xs ys : List ℕ) → sink.took s xs t → sink.took t ys u → sink.took s (xs ++ ys) u
 
-  abbrev pub TakenHeld : Type 0
-  TakenHeld = (s t : S) (xs : List ℕ) → sink.took s xs t → Grows (sink.held s) xs (sink.held t)
-
   ready_with : (v w : SizeLimitedFmtAdapter S) (k : Reread) (l : ℕ) → Ready sink v → w ≡ record v { reread = k; lookups_left = l } → Ready sink w
   ready_with v w k l r e = subst (λ (z : SizeLimitedFmtAdapter S). Ready sink z) (sym e) (record { not_failed = r.not_failed; fresh = r.fresh })
 
@@ -233,7 +230,11 @@ module _ {S : Type 0} (sink : Sinks S) (b : List ℕ) (form : Form) where
         ends = ap (λ (h : Trace). h.place) (sym is ∙ all) ∙ x.ends ∙ n.ends;
       }
 
-  module _ (nothing : NothingTaken) (joined : JoinedTaken) (kept : TakenHeld) where
+  module _ (nothing : NothingTaken) (joined : JoinedTaken) where
+    -- what is held grows, since the note has a start
+    note_laws : (note : Note) (end : Place) (w : SizeLimitedFmtAdapter S) (t : TargetText) → IsNoted sink b note end w t → WasPrinted sink b form note end w → Holds sink
+    note_laws note end w t n x = subst (λ (o : Option ℕ). IfSome o (λ k. Holds sink)) n.start x.laws
+
     -- the sink holds the text, if it holds all that it took
     held_bytes : (note : Note) (end : Place) (w : SizeLimitedFmtAdapter S) (t : TargetText) (text : List ℕ) (n : IsNoted sink b note end w t) (x : WasPrinted sink b form note end w) → sink.held w.out.now ≡ Some text
         → (y : Target t note.state.depth_left x.before w) → slice_range text t.text.start (t.text.start + t.text.len) ≡ concat (texts_in (target_trace b form t note.state.depth_left).events)
@@ -243,7 +244,7 @@ module _ {S : Type 0} (sink : Sinks S) (b : List ℕ) (form : Form) where
         first = subst (λ (o : Option ℕ). IfSome o (HasLength (sink.held x.before.out.now))) n.start x.start
 
         grows : Grows (sink.held x.before.out.now) (concat (texts_in (events_of y.bits))) (sink.held w.out.now)
-        grows = kept x.before.out.now w.out.now (concat (texts_in (events_of y.bits))) (taken nothing joined y.bits x.before w x.ready y.emits)
+        grows = (note_laws note end w t n x).grows x.before.out.now w.out.now (concat (texts_in (events_of y.bits))) (taken nothing joined y.bits x.before w x.ready y.emits)
 
         go : (held : Option (List ℕ)) → sink.held x.before.out.now ≡ held → slice_range text t.text.start (t.text.start + t.text.len) ≡ concat (texts_in (target_trace b form t note.state.depth_left).events)
         go None k = absurd (subst (λ (o : Option (List ℕ)). HasLength o t.text.start) k first)
@@ -258,11 +259,11 @@ module _ {S : Type 0} (sink : Sinks S) (b : List ℕ) (form : Form) where
 
     -- the note holds for each depth that is enough
     pub noted_target : (note : Note) (end : Place) (w : SizeLimitedFmtAdapter S) (t : TargetText) → IsNoted sink b note end w t → WasPrinted sink b form note end w → HoldsTarget sink b form w t
-    noted_target note end w t n x = go (sink.held w.out.now) refl
+    noted_target note end w t n x d l m = record { laws = note_laws note end w t n x; text = go (sink.held w.out.now) refl }
       where
-        go : (held : Option (List ℕ)) → sink.held w.out.now ≡ held → IfSome held (λ bytes. (d : ℕ) → t.depth ≤ d → d ≤ max_depth → HoldsText b form bytes t d)
+        go : (held : Option (List ℕ)) → sink.held w.out.now ≡ held → IfSome held (λ bytes. HoldsText b form bytes t d)
         go None q = tt
-        go (Some text) q = λ d l m.
+        go (Some text) q =
             let left = note.state.depth_left in
             let y = printed_target note end w t n x in
             let z = went w.reread.high y.bits x.before w y.emits n.known n.few (omega arith) n.low in
@@ -275,7 +276,7 @@ module _ {S : Type 0} (sink : Sinks S) (b : List ℕ) (form : Form) where
             let started : x.before.reread.used ≡ old = sym (ap (λ (r : Reread). r.used) same_reread) in
             let run : Ran (length b) w.reread.high (events form.include_hash true (outcome_at t left).tree) old w.reread.used = subst (λ (u : ℕ). Ran (length b) w.reread.high (events form.include_hash true (outcome_at t left).tree) u w.reread.used) started (subst (λ (xs : List Event). Ran (length b) w.reread.high xs x.before.reread.used w.reread.used) (sym own) z.ran) in
             let count : followed_in (events form.include_hash true (outcome_at t left).tree) ≡ t.text.references = omega (arith, ap followed_in own, z.count, n.references, ap (λ (r : Reread). r.references) same_reread) in
-            let again = printed_again b form left t.lifetimes t.place t.end w.reread.high old w.reread.used d (target_kind t.kind) (target_value t.kind t.in_value) (omega (arith, n.later, n.inside)) (ap (λ (h : Trace). h.place) (sym is_left) ∙ y.ends) (omega (arith, n.peak)) run (enough d l (followed_in (events form.include_hash true (outcome_at t left).tree)) count) in
+            let again = printed_again b form left t.lifetimes t.place t.end w.reread.high old w.reread.used d (target_kind t.kind) (target_value t.kind t.in_value) (omega (arith, n.later, n.inside)) (ap (λ (h : Trace). h.place) (sym is_left) ∙ y.ends) (omega (arith, n.peak)) run (enough (followed_in (events form.include_hash true (outcome_at t left).tree)) count) in
             let same : target_trace b form t d ≡ target_trace b form t left = is_d ∙ ap closed again.same ∙ sym is_left in
             record {
               ends = ap (λ (h : Trace). h.place) same ∙ y.ends;
@@ -283,18 +284,18 @@ module _ {S : Type 0} (sink : Sinks S) (b : List ℕ) (form : Form) where
               within = omega (arith, subst (λ (o : Option (List ℕ)). HasLength o (t.text.start + t.text.len)) q n.held);
               same = held_bytes note end w t text n x q y ∙ ap (λ (h : Trace). concat (texts_in h.events)) (sym same);
               counted = ap (λ (h : Trace). followed_in h.events) (same ∙ is_left) ∙ count;
-              climbs = subst (λ (h : Trace). Climbs (length b) t.text.peak h.events 0 t.text.reread) (sym (same ∙ is_left)) (climb d again);
+              climbs = subst (λ (h : Trace). Climbs (length b) t.text.peak h.events 0 t.text.reread) (sym (same ∙ is_left)) (climb again);
             }
           where
-            enough : (d : ℕ) → t.depth ≤ d → (k : ℕ) → k ≡ t.text.references → IsEnough note.state.depth_left d (2 * (t.end - t.place) + 2 + (3 * k + 2 * (w.reread.used - note.reread.used)))
-            enough d l k c = pick (cases_lt note.state.depth_left (2 * (t.end - t.place) + 2 + (3 * k + 2 * (w.reread.used - note.reread.used))))
+            enough : (k : ℕ) → k ≡ t.text.references → IsEnough note.state.depth_left d (2 * (t.end - t.place) + 2 + (3 * k + 2 * (w.reread.used - note.reread.used)))
+            enough k c = pick (cases_lt note.state.depth_left (2 * (t.end - t.place) + 2 + (3 * k + 2 * (w.reread.used - note.reread.used))))
               where
                 pick : (note.state.depth_left < 2 * (t.end - t.place) + 2 + (3 * k + 2 * (w.reread.used - note.reread.used))) ⊎ (2 * (t.end - t.place) + 2 + (3 * k + 2 * (w.reread.used - note.reread.used)) ≤ note.state.depth_left) → IsEnough note.state.depth_left d (2 * (t.end - t.place) + 2 + (3 * k + 2 * (w.reread.used - note.reread.used)))
                 pick (inl u) = inr (omega (arith, n.depth, n.used, l, c, u))
                 pick (inr u) = inl (omega (arith, n.depth, n.used, l, c, u))
 
-            climb : (d : ℕ) → PrintedAgain b form note.state.depth_left t.lifetimes t.place w.reread.high note.reread.used w.reread.used d (target_kind t.kind) (target_value t.kind t.in_value) → Climbs (length b) t.text.peak (events form.include_hash true (outcome_at t note.state.depth_left).tree) 0 t.text.reread
-            climb d a =
+            climb : PrintedAgain b form note.state.depth_left t.lifetimes t.place w.reread.high note.reread.used w.reread.used d (target_kind t.kind) (target_value t.kind t.in_value) → Climbs (length b) t.text.peak (events form.include_hash true (outcome_at t note.state.depth_left).tree) 0 t.text.reread
+            climb a =
                 let xs : List Event = events form.include_hash true (outcome_at t note.state.depth_left).tree in
                 let top : w.reread.high - note.reread.used ≡ t.text.peak = omega (arith, n.peak) in
                 let last : w.reread.used - note.reread.used ≡ t.text.reread = omega (arith, n.used) in
@@ -307,11 +308,13 @@ module _ {S : Type 0} (sink : Sinks S) (b : List ℕ) (form : Form) where
   entry_set w (u ∷ ts) (suc k) t h x = (h.0, entry_set w ts k t h.1 x)
 
   -- the texts are still there after more was taken
-  pub still_held : TakenHeld → (xs : List ℕ) (v w : SizeLimitedFmtAdapter S) (t : TargetText) → sink.took v.out.now xs w.out.now → HoldsTarget sink b form v t → HoldsTarget sink b form w t
-  still_held kept xs v w t took h = go (sink.held v.out.now) (sink.held w.out.now) (kept v.out.now w.out.now xs took) h
+  pub still_held : (xs : List ℕ) (v w : SizeLimitedFmtAdapter S) (t : TargetText) → sink.took v.out.now xs w.out.now → HoldsTarget sink b form v t → HoldsTarget sink b form w t
+  still_held xs v w t took h d l m =
+      let held = h d l m in
+      record { laws = held.laws; text = go (sink.held v.out.now) (sink.held w.out.now) (held.laws.grows v.out.now w.out.now xs took) held.text }
     where
-      more : (bytes : List ℕ) (d : ℕ) → HoldsText b form bytes t d → HoldsText b form (bytes ++ xs) t d
-      more bytes d f = record {
+      more : (bytes : List ℕ) → HoldsText b form bytes t d → HoldsText b form (bytes ++ xs) t d
+      more bytes f = record {
         ends = f.ends;
         later = f.later;
         within = omega (arith, f.within, length-append bytes xs);
@@ -320,15 +323,15 @@ module _ {S : Type 0} (sink : Sinks S) (b : List ℕ) (form : Form) where
         climbs = f.climbs;
       }
 
-      go : (old new : Option (List ℕ)) → Grows old xs new → IfSome old (λ bytes. (d : ℕ) → t.depth ≤ d → d ≤ max_depth → HoldsText b form bytes t d) → IfSome new (λ bytes. (d : ℕ) → t.depth ≤ d → d ≤ max_depth → HoldsText b form bytes t d)
+      go : (old new : Option (List ℕ)) → Grows old xs new → IfSome old (λ bytes. HoldsText b form bytes t d) → IfSome new (λ bytes. HoldsText b form bytes t d)
       go old None g f = tt
       go None (Some text) g f = absurd g
-      go (Some bytes) (Some text) g f = λ d l m. subst (λ (ys : List ℕ). HoldsText b form ys t d) (sym g) (more bytes d (f d l m))
+      go (Some bytes) (Some text) g f = subst (λ (ys : List ℕ). HoldsText b form ys t d) (sym g) (more bytes f)
 
-  pub all_held : TakenHeld → (xs : List ℕ) (v w : SizeLimitedFmtAdapter S) (ts : List StoredText) → sink.took v.out.now xs w.out.now → HoldsTexts sink b form v ts → HoldsTexts sink b form w ts
-  all_held kept xs v w [] took h = tt
-  all_held kept xs v w (t ∷ ts) took h = (still_held kept xs v w (text_of t) took h.0, all_held kept xs v w ts took h.1)
+  pub all_held : (xs : List ℕ) (v w : SizeLimitedFmtAdapter S) (ts : List StoredText) → sink.took v.out.now xs w.out.now → HoldsTexts sink b form v ts → HoldsTexts sink b form w ts
+  all_held xs v w [] took h = tt
+  all_held xs v w (t ∷ ts) took h = (still_held xs v w (text_of t) took h.0, all_held xs v w ts took h.1)
 
   -- the texts are still there after steps above other frames
-  pub held_along : NothingTaken → JoinedTaken → TakenHeld → {below : List Frame} {p q : Continuation} {first t : Machine (SizeLimitedFmtAdapter S)} (ts : List StoredText) → Ready sink first.output → HoldsTexts sink b form first.output ts → RunsAbove (printing sink b form) below p first q t → HoldsTexts sink b form t.output ts
-  held_along nothing joined kept {first = first} {t = t} ts r h x = all_held kept (concat (texts_in (events_of x.ran.bits))) first.output t.output ts (taken nothing joined x.ran.bits first.output t.output r x.ran.emits) h
+  pub held_along : NothingTaken → JoinedTaken → {below : List Frame} {p q : Continuation} {first t : Machine (SizeLimitedFmtAdapter S)} (ts : List StoredText) → Ready sink first.output → HoldsTexts sink b form first.output ts → RunsAbove (printing sink b form) below p first q t → HoldsTexts sink b form t.output ts
+  held_along nothing joined {first = first} {t = t} ts r h x = all_held (concat (texts_in (events_of x.ran.bits))) first.output t.output ts (taken nothing joined x.ran.bits first.output t.output r x.ran.emits) h

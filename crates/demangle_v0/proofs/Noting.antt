@@ -14,7 +14,7 @@ use Rattle.demangle_v0_parser.specs.Loops.{printing}
 use Rattle.demangle_v0_parser.specs.Parsers.{Paced, Same, most_looks}
 use Rattle.demangle_v0.specs.declared.held_texts.StoredText.{StoredText}
 use Rattle.demangle_v0_parser.specs.declared.parse.Parser.{Parser}
-use Rattle.demangle_v0.proofs.NotedTexts.{JoinedTaken, NothingTaken, TakenHeld}
+use Rattle.demangle_v0.proofs.NotedTexts.{JoinedTaken, NothingTaken}
 use Rattle.demangle_v0.proofs.Targets.{held_left, held_ran}
 use Rattle.demangle_sink.specs.declared.SinkRefused.{SinkRefused}
 use Rattle.demangle_v0.specs.Above.{AboveDone}
@@ -59,9 +59,9 @@ most_on m k j same pace l most idle =
     ]
 
 module _ {S : Type 0} (sink : Sinks S) (b : List ℕ) (form : Form) where
-  pub held_on : NothingTaken sink b form → JoinedTaken sink b form → TakenHeld sink b form → {p : Continuation} {t : Machine (SizeLimitedFmtAdapter S)} (x : Option Unfinished) {r : Checkpoint} {now : List Frame} {w : SizeLimitedFmtAdapter S} {n : ℕ} (ts : List StoredText) → Ready sink t.output → HoldsTexts sink b form t.output ts → PrintDone (printing sink b form) p t (Ok x) r now w n → HoldsTexts sink b form w ts
-  held_on nothing joined kept None ts r h d = held_ran sink b form nothing joined kept ts r h d.ran
-  held_on nothing joined kept (Some x) ts r h d = held_left sink b form nothing joined kept x ts r h d
+  pub held_on : NothingTaken sink b form → JoinedTaken sink b form → {p : Continuation} {t : Machine (SizeLimitedFmtAdapter S)} (x : Option Unfinished) {r : Checkpoint} {now : List Frame} {w : SizeLimitedFmtAdapter S} {n : ℕ} (ts : List StoredText) → Ready sink t.output → HoldsTexts sink b form t.output ts → PrintDone (printing sink b form) p t (Ok x) r now w n → HoldsTexts sink b form w ts
+  held_on nothing joined None ts r h d = held_ran sink b form nothing joined ts r h d.ran
+  held_on nothing joined (Some x) ts r h d = held_left sink b form nothing joined x ts r h d
 
 module _ {V : Type 0} {e : Env V} where
   -- a parse that stopped at a target, and the parse from there

@@ -32,7 +32,7 @@ use Rattle.demangle_v0_parser.specs.declared.State.{State}
 use Rattle.demangle_v0_parser.specs.declared.frames.Frame.{Frame}
 use Rattle.demangle_v0.specs.declared.held_texts.StoredText.{StoredText}
 use Rattle.demangle_v0.specs.declared.held_texts.TargetText.{TargetText}
-use Rattle.demangle_v0.proofs.AgainTexts.{NothingLaw, Sent, SplitLaw, actions_of, actions_trace, sent_emits}
+use Rattle.demangle_v0.proofs.AgainTexts.{NothingLaw, Sent, actions_of, actions_trace, sent_emits}
 
 pub target_deep : (p : Continuation) (left n : ℕ) → is_target p ≡ true → Fits p left n → left ≤ max_depth
 target_deep continuation.TargetPath left n k h = omega (arith, h)
@@ -60,10 +60,10 @@ module _ {S : Type 0} (sink : Sinks S) (b : List ℕ) (form : Form) where
 
   -- the text of the target at a depth
   pub held_text : (v : SizeLimitedFmtAdapter S) (t : TargetText) (d : ℕ) → HoldsTarget sink b form v t → t.depth ≤ d → d ≤ max_depth → IfSome (sink.held v.out.now) (λ bytes. HoldsText b form bytes t d)
-  held_text v t d h l m = IfSome_then (sink.held v.out.now) h (λ bytes f. f d l m)
+  held_text v t d h l m = (h d l m).text
 
   pub held_within : (v : SizeLimitedFmtAdapter S) (t : TargetText) (d : ℕ) → HoldsTarget sink b form v t → t.depth ≤ d → d ≤ max_depth → IfSome (sink.held v.out.now) (λ bytes. t.text.start + t.text.len ≤ length bytes)
-  held_within v t d h l m = IfSome_then (sink.held v.out.now) h (λ bytes f. (f d l m).within)
+  held_within v t d h l m = IfSome_then (sink.held v.out.now) (h d l m).text (λ bytes f. f.within)
 
   -- how much is read again for a text that is put again: at most `top` at once, and e in the end
   record Counted (xs : List Event) (old new : Reread) : Type 0 where
@@ -176,9 +176,9 @@ module _ {S : Type 0} (sink : Sinks S) (b : List ℕ) (form : Form) where
   unfolding trace_at
   left_after s v t stack n = refl
 
-  pub put_ran : SplitLaw sink b form → NothingLaw sink b form → (p : Continuation) (s : State) (v w : SizeLimitedFmtAdapter S) (t : TargetText) (n : ℕ) → is_target p ≡ true → IsTextOf t p s → HoldsTarget sink b form v t → s.depth_left ≤ max_depth → Ready sink v
+  pub put_ran : NothingLaw sink b form → (p : Continuation) (s : State) (v w : SizeLimitedFmtAdapter S) (t : TargetText) (n : ℕ) → is_target p ≡ true → IsTextOf t p s → HoldsTarget sink b form v t → s.depth_left ≤ max_depth → Ready sink v
       → PutsAgain sink v t.text w → (stack : List Frame) → RanSteps (printing sink b form) p (machine s stack v n) continuation.End (machine (after_target s t) stack w n)
-  put_ran split nothing p s v w t n k x h m r z stack = go (sink.held v.out.now) refl
+  put_ran nothing p s v w t n k x h m r z stack = go (sink.held v.out.now) refl
     where
       go : (held : Option (List ℕ)) → sink.held v.out.now ≡ held → RanSteps (printing sink b form) p (machine s stack v n) continuation.End (machine (after_target s t) stack w n)
       go None q = absurd (subst (λ o. TakesAgain sink.took o t.text.start t.text.len v.out.now w.out.now) q z.takes.again)
@@ -189,7 +189,7 @@ module _ {S : Type 0} (sink : Sinks S) (b : List ℕ) (form : Form) where
           let stacked : Place → Bool → Trace = trace_of_stack b form true stack in
           record {
             bits = actions_of h1.events;
-            emits = sent_emits sink b form split nothing z.takes.copies h1.events v.reread.used y.0 0 y.1 v w y.2;
+            emits = sent_emits sink b form z.takes.laws.splits nothing h1.events v.reread.used y.0 0 y.1 v w y.2;
             reads = ap (λ (u : Trace). and_then u stacked) (target_reads p s t k x) ∙ and_put h1 t.end stacked f.ends (target_closed t.kind t.in_value s.depth_left t.lifetimes (Some t.place)) ∙ ap (λ (u : Trace). with_actions true (actions_of h1.events) u) (sym (left_after s w t stack n));
             paid_looks = omega arith;
           }

@@ -16,7 +16,7 @@ use Rattle.demangle_sink.specs.Limit.{Ready}
 use Rattle.std.specs.List.{concat}
 use Rattle.demangle_v0_grammar.specs.Traces.{texts_in}
 use Rattle.demangle_v0.proofs.Above.{lifted, whole_done}
-use Rattle.demangle_v0.proofs.NotedTexts.{JoinedTaken, NothingTaken, TakenHeld, all_held, events_of, taken}
+use Rattle.demangle_v0.proofs.NotedTexts.{JoinedTaken, NothingTaken, all_held, events_of, taken}
 use Rattle.demangle_sink.specs.declared.SinkRefused.{SinkRefused}
 use Rattle.demangle_v0_parser.specs.declared.stops.Checkpoint.{Checkpoint}
 use Rattle.demangle_v0_parser.specs.declared.stops.Unfinished.{Unfinished}
@@ -159,9 +159,9 @@ module _ {S : Type 0} (sink : Sinks S) (b : List ℕ) (form : Form) where
   print_fails (Ok x) h d = absurd (false≢true h)
   print_fails (Err g) h d = record { ran = d.ran }
 
-  pub held_ran : NothingTaken sink b form → JoinedTaken sink b form → TakenHeld sink b form → {p q : Continuation} {t u : Machine (SizeLimitedFmtAdapter S)} (ts : List StoredText) → Ready sink t.output → HoldsTexts sink b form t.output ts → RanSteps (printing sink b form) p t q u → HoldsTexts sink b form u.output ts
-  held_ran nothing joined kept {t = t} {u = u} ts r h x = all_held sink b form kept (concat (texts_in (events_of x.bits))) t.output u.output ts (taken sink b form nothing joined x.bits t.output u.output r x.emits) h
+  pub held_ran : NothingTaken sink b form → JoinedTaken sink b form → {p q : Continuation} {t u : Machine (SizeLimitedFmtAdapter S)} (ts : List StoredText) → Ready sink t.output → HoldsTexts sink b form t.output ts → RanSteps (printing sink b form) p t q u → HoldsTexts sink b form u.output ts
+  held_ran nothing joined {t = t} {u = u} ts r h x = all_held sink b form (concat (texts_in (events_of x.bits))) t.output u.output ts (taken sink b form nothing joined x.bits t.output u.output r x.emits) h
 
-  pub held_left : NothingTaken sink b form → JoinedTaken sink b form → TakenHeld sink b form → {p : Continuation} {t : Machine (SizeLimitedFmtAdapter S)} (x : Unfinished) {r : Checkpoint} {now : List Frame} {w : SizeLimitedFmtAdapter S} {n : ℕ} (ts : List StoredText) → Ready sink t.output → HoldsTexts sink b form t.output ts → PrintDone (printing sink b form) p t (Ok (Some x)) r now w n → HoldsTexts sink b form w ts
-  held_left nothing joined kept left.Printing ts r h d = held_ran nothing joined kept ts r h d.ran
-  held_left nothing joined kept (left.Skipping base at) ts r h d = held_ran nothing joined kept ts r h d.ran.ran
+  pub held_left : NothingTaken sink b form → JoinedTaken sink b form → {p : Continuation} {t : Machine (SizeLimitedFmtAdapter S)} (x : Unfinished) {r : Checkpoint} {now : List Frame} {w : SizeLimitedFmtAdapter S} {n : ℕ} (ts : List StoredText) → Ready sink t.output → HoldsTexts sink b form t.output ts → PrintDone (printing sink b form) p t (Ok (Some x)) r now w n → HoldsTexts sink b form w ts
+  held_left nothing joined left.Printing ts r h d = held_ran nothing joined ts r h d.ran
+  held_left nothing joined (left.Skipping base at) ts r h d = held_ran nothing joined ts r h d.ran.ran

@@ -7,7 +7,7 @@ use Rattle.demangle_sink.specs.declared.limit.SizeLimitedFmtAdapter.{SizeLimited
 use Rattle.demangle_v0_parser.specs.Steps.{Env, Machine, machine}
 use Rattle.demangle_v0_parser.specs.Loops.{InPart, RanSteps, StoppedAfter, printing}
 use Rattle.demangle_v0.specs.HeldTexts.{kind_of}
-use Rattle.demangle_sink.specs.Limit.{Ready}
+use Rattle.demangle_sink.specs.Limit.{Holds, Ready}
 use Rattle.demangle_sink.specs.Sink.{HasLength}
 use Rattle.demangle_v0_grammar.specs.Reading.{Form, Place, max_depth}
 use Rattle.std.below.core.specs.declared.int.usize.TheConstants.{MAX}
@@ -92,6 +92,7 @@ pub record WasPrinted {S : Type 0} (sink : Sinks S) (b : List ℕ) (form : Form)
   pub deep : note.state.depth_left ≤ max_depth
   pub before : SizeLimitedFmtAdapter S
   pub start : IfSome note.start (HasLength (sink.held before.out.now))
+  pub laws : IfSome note.start (λ n. Holds sink)
   pub reread : note.reread ≡ before.reread
   pub after : State
   pub looks : ℕ

@@ -2,6 +2,7 @@
 -- The texts of targets that a sink holds.
 use Rattle.std.specs.Prelude.{◌≡◌, ℕ, zero, suc, ◌+◌, ◌≤◌, true, false, List, [], ◌∷◌, length, Some, IfSome}
 use Rattle.std.specs.List.{concat, slice_range}
+use Rattle.demangle_sink.specs.Limit.{Holds}
 use Rattle.demangle_sink.specs.declared.TextSink.{Ghosts as Sinks}
 use Rattle.demangle_sink.specs.declared.limit.SizeLimitedFmtAdapter.{SizeLimitedFmtAdapter}
 use Rattle.demangle_v0_grammar.specs.Reading.{Form, max_depth}
@@ -38,9 +39,14 @@ pub record HoldsText (b : List ℕ) (form : Form) (bytes : List ℕ) (t : Target
   pub counted : followed_in (target_trace b form t d).events ≡ t.text.references
   pub climbs : Climbs (length b) t.text.peak (target_trace b form t d).events 0 t.text.reread
 
+-- the sink has it, as it is with d levels left
+pub record HoldsAt {S : Type 0} (sink : Sinks S) (b : List ℕ) (form : Form) (v : SizeLimitedFmtAdapter S) (t : TargetText) (d : ℕ) : Type 0 where
+  pub laws : Holds sink
+  pub text : IfSome (sink.held v.out.now) (λ bytes. HoldsText b form bytes t d)
+
 -- the sink has it, for each depth that is enough
 abbrev pub HoldsTarget : {S : Type 0} → Sinks S → List ℕ → Form → SizeLimitedFmtAdapter S → TargetText → Type 0
-HoldsTarget sink b form v t = IfSome (sink.held v.out.now) (λ bytes. (d : ℕ) → t.depth ≤ d → d ≤ max_depth → HoldsText b form bytes t d)
+HoldsTarget sink b form v t = (d : ℕ) → t.depth ≤ d → d ≤ max_depth → HoldsAt sink b form v t d
 
 -- the text that is stored
 abbrev pub text_of : StoredText → TargetText

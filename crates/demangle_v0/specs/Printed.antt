@@ -4,7 +4,7 @@ use Rattle.std.specs.Prelude.{◌≡◌, ◌≤◌, ℕ, List, Some, None, Ok, l
 use Rattle.demangle_v0_grammar.specs.V0.{v0_of}
 use Rattle.demangle_sink.specs.declared.TextSink.{Ghosts as Sinks}
 use Rattle.demangle_sink.specs.declared.limit.SizeLimitedFmtAdapter.{SizeLimitedFmtAdapter}
-use Rattle.demangle_v0.specs.Attempts.{PrintsWithMore}
+use Rattle.demangle_v0.specs.Attempts.{PrintsCut, PrintsWithMore}
 use Rattle.demangle_v0.specs.declared.FirstPrint.{FirstPrint}
 use Rattle.demangle_v0.specs.declared.Printed.{Printed}
 use Rattle.demangle_v0.specs.declared.Printed.TheVariants as printed
@@ -12,6 +12,7 @@ use Rattle.demangle_v0.specs.declared.Printed.TheVariants as printed
 -- the symbol and its suffix, and all texts of its path if the path was printed, or that the text is not a symbol
 abbrev pub IsKnown : {S : Type 0} → Sinks S → List ℕ → SizeLimitedFmtAdapter S → FirstPrint → Printed → SizeLimitedFmtAdapter S → Type 0
 IsKnown sink text v first (printed.Symbol symbol suffix) w = (v0_of text ≡ Some (symbol, suffix.now)) × PrintsWithMore sink first.withheld v symbol first.form (Ok tt) w
+IsKnown sink text v first (printed.Cut symbol suffix) w = (v0_of text ≡ Some (symbol, suffix.now)) × PrintsCut sink first.withheld v symbol first.form w
 IsKnown sink text v first (printed.Part symbol suffix) w = v0_of text ≡ Some (symbol, suffix.now)
 IsKnown sink text v first printed.NoSymbol w = v0_of text ≡ None
 IsKnown sink text v first printed.Unknown w = Unit {0}
@@ -19,5 +20,6 @@ IsKnown sink text v first printed.Unknown w = Unit {0}
 -- a symbol and its suffix have at most this many bytes each
 abbrev pub HasLengthsWithin : ℕ → Printed → Type 0
 HasLengthsWithin n (printed.Symbol symbol suffix) = (length symbol ≤ n) × (length suffix.now ≤ n)
+HasLengthsWithin n (printed.Cut symbol suffix) = (length symbol ≤ n) × (length suffix.now ≤ n)
 HasLengthsWithin n (printed.Part symbol suffix) = (length symbol ≤ n) × (length suffix.now ≤ n)
 HasLengthsWithin n _ = Unit {0}

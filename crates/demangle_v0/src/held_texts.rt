@@ -1,6 +1,6 @@
 //! The texts of targets that a sink holds. A reference to such a target need not print it again.
 ghost use Rattle.std.specs.Prelude.{◌≡◌, ◌≤◌, ◌<◌, true, false, Some, IfNone, IfSome};
-ghost use Rattle.demangle_sink.specs.Limit.{Ready};
+ghost use Rattle.demangle_sink.specs.Limit.{Holds, Ready};
 ghost use Rattle.demangle_sink.specs.Sink.{HasLength};
 ghost use Rattle.demangle_v0.specs.Above.{IsNoted, PutsAgainTarget, RunsTarget, WasPrinted};
 ghost use Rattle.demangle_v0.specs.HeldTexts.{kind_of, text_of, HoldsTexts, IsTextOf};
@@ -244,6 +244,7 @@ pub fn run_target<S: TextSink>(
 pub fn start_note<S: TextSink>(parser: &Parser<'_, '_>, out: &SizeLimitedFmtAdapter<'_, S>) -> Note
     ensures target { (result.continuation ≡ parser.now.continuation) × (result.state ≡ parser.now.state) }
     ensures start { IfSome result.start (HasLength (S.held out.now.out.now)) }
+    ensures laws { IfSome result.start (λ n. Holds S.TextSink) }
     ensures reread { result.reread ≡ out.now.reread }
 {
     Note {

@@ -120,6 +120,8 @@ pub fn demangle<'s>(
 pub enum Printed<'s> {
     /// The text is this symbol with this suffix, and its first path was printed.
     Symbol(Demangle<'s>, &'s str),
+    /// The text is this symbol with this suffix, and its first path was printed up to a limit.
+    Cut(Demangle<'s>, &'s str),
     /// The text is this symbol with this suffix. A part of the first path may be printed.
     Part(Demangle<'s>, &'s str),
     /// The text is not a symbol. A part of a path may be printed.
@@ -135,6 +137,8 @@ pub struct FirstPrint {
     pub form: Form,
     /// How many more bytes may be passed to the sink after the text was validated.
     pub withheld: usize,
+    /// How much fuel the references of a path used up that was not printed.
+    pub fuel: usize,
 }
 
 /// Reads a v0 symbol and prints its first path, and counts its looks: with hashes or without them,
@@ -143,17 +147,17 @@ pub struct FirstPrint {
 ///
 /// If the path has few references, the text is read once. Otherwise, and after an error, the text is
 /// validated before the rest of the path is printed, and more bytes may be passed to the sink then. A
-/// path that is nested deeply may be printed in part. The looks up to the end of validation are bounded by the length of the text, and by less if
-/// the text was not validated.
+/// path that is nested deeply may be printed in part. The looks up to the end of validation are
+/// bounded by the length of the text, and by less if the text was not validated.
 pub fn demangle_printed<'s, S: TextSink>(
     s: &'s str,
     out: &mut SizeLimitedFmtAdapter<'_, S>,
-    first: FirstPrint,
+    first: &mut FirstPrint,
     looks: &mut RunLooks,
 ) -> Printed<'s>
     requires ascii { IsAscii s.now }
     requires ready { Ready S.TextSink out.old }
-    ensures known { IsKnown S.TextSink s.now out.old first result out.new }
+    ensures known { IsKnown S.TextSink s.now out.old first.old result out.new }
     ensures inner { HasLengthsWithin (length s.now) result }
     ensures grows { looks.old.accepting_looks ≤ looks.new.accepting_looks }
     ensures most { looks.new.accepting_looks ≤ looks.old.accepting_looks + 134 * (length s.now + 1) }
@@ -174,8 +178,9 @@ pub fn demangle_printed<'s, S: TextSink>(
         symbol: &symbol,
         form: first.form,
     };
-    match print_to_suffix(source, out, first.withheld, looks) {
+    match print_to_suffix(source, out, first, looks) {
         Attempt::Printed(end) => Printed::Symbol(Demangle::new(symbol), &inner[end..]),
+        Attempt::Cut(end) => Printed::Cut(Demangle::new(symbol), &inner[end..]),
         Attempt::Read(end) => Printed::Part(Demangle::new(symbol), &inner[end..]),
         Attempt::NoPath => Printed::NoSymbol,
         Attempt::Unknown => Printed::Unknown,

@@ -51,8 +51,7 @@ fn continue_after(parser: &mut Parser<'_, '_>, printing: Checkpoint, place: Opti
 
 /// Reads the rest of a part that is not printed, if `left` is in one, and continues after it.
 /// Returns what is left to print if the stack is full before the part ends.
-// It is not inlined, so that the loop of printing stays small.
-#[inline(never)]
+#[inline(always)]
 pub fn finish_skip(parser: &mut Parser<'_, '_>, left: Unfinished) -> Option<Unfinished>
     requires valid { UnfinishedIsValid 0 (Ok (Some left)) parser.old }
     ensures finishes { FinishesSkip parser.old left result parser.new }

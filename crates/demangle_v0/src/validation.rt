@@ -8,8 +8,9 @@ ghost use Rattle.demangle_v0_grammar.specs.Reading.{starts_second_path, unit_end
 ghost use Rattle.demangle_v0_grammar.specs.LookTotals.{allowed_in};
 ghost use Rattle.demangle_v0_grammar.specs.ValidationLooks.{looks_in, suffix_looks, accepting_looks};
 ghost use Rattle.demangle_sink.specs.Limit.{Ready};
-ghost use Rattle.demangle_v0.specs.Attempts.{PrintsIfPrinted, SuffixOf};
+ghost use Rattle.demangle_v0.specs.Attempts.{IsUncut, PrintsIfPrinted, SuffixOf};
 
+use crate::FirstPrint;
 use crate::printer::{end_within, print_validated, print_within};
 use crate::reading::read_steps;
 use crate::stacks::{FULL_STACK, MIDDLE_STACK, SHORT_STACK};
@@ -168,6 +169,8 @@ pub fn begins_path(symbol: &Symbol<'_>, place: usize, looks: &mut Looks) -> bool
 pub enum Attempt {
     /// The first path was printed, and the suffix begins at this place.
     Printed(usize),
+    /// The suffix begins at this place, and the first path was printed up to a limit.
+    Cut(usize),
     /// The suffix begins at this place. A part of the first path may be printed.
     Read(usize),
     /// A path has an error. A part of the first path may be printed.
@@ -190,6 +193,7 @@ fn after_first_path(parser: &mut Parser<'_, '_>, end: usize) -> Attempt
     requires first { Some end ≡ unit_end parser.old.source.symbol.now a_path 0 0 }
     requires smaller { parser.old.stack.room ≤ MIDDLE_STACK }
     ensures suffix { SuffixOf parser.old.source.symbol.now result }
+    ensures uncut { IsUncut result }
     ensures grows { parser.old.looks ≤ parser.new.looks }
     ensures most { parser.new.looks ≤ parser.old.looks + 32 * (length parser.old.source.symbol.now + 1)
         + 1 }
@@ -244,18 +248,19 @@ fn printed_first<S: TextSink>(
     if !may_begin_suffix(parser.source.symbol, end, &mut parser.looks) {
         return Attempt::Read(end);
     }
-    let is_printed = match left {
-        None => true,
+    match left {
+        None => Attempt::Printed(end),
         Some(Unfinished::Printing) => {
-            out.allow_more(withheld);
-            print_validated(parser, out, printing_looks).is_ok()
+            let are_all_allowed = out.allow_more(withheld);
+            if print_validated(parser, out, printing_looks).is_ok() {
+                Attempt::Printed(end)
+            } else if are_all_allowed && out.is_limit_reached() {
+                Attempt::Cut(end)
+            } else {
+                Attempt::Read(end)
+            }
         }
-        Some(Unfinished::Skipping(_, _)) => false,
-    };
-    if is_printed {
-        Attempt::Printed(end)
-    } else {
-        Attempt::Read(end)
+        Some(Unfinished::Skipping(_, _)) => Attempt::Read(end),
     }
 }
 
@@ -263,19 +268,19 @@ fn printed_first<S: TextSink>(
 /// then.
 ///
 /// The path is printed before it is known whether the symbol is valid, until the fuel is used up.
-/// Then the symbol is validated, and only the rest of a valid one is printed, with `withheld` more
-/// bytes. The looks up to that are bounded by the length of the symbol, and by less if it was not
-/// validated.
+/// Then the symbol is validated, and only the rest of a valid one is printed, with the bytes that
+/// `first` withheld. The looks up to that are bounded by the length of the symbol, and by less if it
+/// was not validated. If the path was not printed, the fuel of `first` is set.
 pub fn print_to_suffix<S: TextSink>(
     source: Source<'_>,
     out: &mut SizeLimitedFmtAdapter<'_, S>,
-    withheld: usize,
+    first: &mut FirstPrint,
     looks: &mut RunLooks,
 ) -> Attempt
     requires ascii { IsAscii source.symbol.now }
     requires ready { Ready S.TextSink out.old }
     ensures suffix { SuffixOf source.entry.symbol.now result }
-    ensures prints { PrintsIfPrinted S.TextSink withheld out.old source.entry.symbol.now
+    ensures prints { PrintsIfPrinted S.TextSink first.old.withheld out.old source.entry.symbol.now
         source.entry.form result out.new }
     ensures grows { looks.old.accepting_looks ≤ looks.new.accepting_looks }
     ensures most { looks.new.accepting_looks ≤ looks.old.accepting_looks + 132 * (length
@@ -289,7 +294,11 @@ pub fn print_to_suffix<S: TextSink>(
     let mut memory = [UNUSED_FRAME; SHORT_STACK];
     let mut parser = Parser::at_path(source, 0, &mut memory, &mut looks.accepting_looks);
     parser.fuel = Fuel::for_run(source.symbol.len());
-    let result = printed_first(&mut parser, out, withheld, &mut looks.printing_looks);
+    let result = printed_first(&mut parser, out, first.withheld, &mut looks.printing_looks);
     looks.accepting_looks = parser.looks;
+    match result {
+        Attempt::Printed(_) => {}
+        _ => first.fuel = parser.fuel.used_within(),
+    }
     result
 }

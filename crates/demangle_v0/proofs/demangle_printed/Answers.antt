@@ -35,3 +35,14 @@ returns-in-NoPath-clause-known g c =
     let begun : true ≡ starts_second_path c.in-Some.inner.now 0 = rw (← c.new-symbol.ensures) c.if-not-begins_path.ensures.value in
     let none : ◌≡◌ {A = Option ℕ} None (suffix_place c.in-Some.inner.now) = rw (← c.new-symbol.ensures) (sym c.in-NoPath.ensures.suffix) in
     v0_no_paths c.args.s.now c.in-Some.inner.now c.in-Some.ensures.some c.in-Some.ensures.ascii (sym begun) none
+
+pub range_from-requires-in-Cut : goal.range_from-requires-in-Cut
+range_from-requires-in-Cut g c =
+    let place : Some c.in-Cut.end ≡ suffix_place c.in-Some.inner.now = rw (← c.new-symbol.ensures) c.in-Cut.ensures.suffix in
+    λ _. (suffix_within c.in-Some.inner.now c.in-Cut.end place, λ _ high. absurd (omega (arith, high, c.in-Some.ensures.ascii c.in-Cut.end)))
+
+pub returns-in-Cut-clause-known : goal.returns-in-Cut-clause-known
+returns-in-Cut-clause-known g c =
+    let begun : true ≡ starts_second_path c.in-Some.inner.now 0 = rw (← c.new-symbol.ensures) c.if-not-begins_path.ensures.value in
+    let place : Some c.in-Cut.end ≡ suffix_place c.in-Some.inner.now = rw (← c.new-symbol.ensures) c.in-Cut.ensures.suffix in
+    (rw (c.new-in-Cut.ensures, c.new-symbol.ensures, c.range_from-in-Cut.ensures.value) (v0_there c.args.s.now c.in-Some.inner.now c.in-Cut.end c.in-Some.ensures.some c.in-Some.ensures.ascii (sym begun) place), rw c.new-in-Cut.ensures c.in-Cut.ensures.prints)

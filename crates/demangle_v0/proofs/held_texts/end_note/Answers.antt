@@ -11,4 +11,4 @@ returns-in-Some-new g c =
     let b = m.source.symbol.now in
     let form = m.source.form in
     let w = c.args.out.now in
-    entry_set sink b form w c.args.texts.now c.entry_of.result c.in-Some-new.stored c.requires.held (subst (λ z. HoldsTarget sink b form w z) (sym c.in-Some-new.ensures) (noted_target sink b form laws.took_nothing laws.took_joined laws.took_held c.args.note.now m.state.place w c.in-Some.text c.in-Some.ensures c.requires.printed))
+    entry_set sink b form w c.args.texts.now c.entry_of.result c.in-Some-new.stored c.requires.held (subst (λ z. HoldsTarget sink b form w z) (sym c.in-Some-new.ensures) (noted_target sink b form laws.took_nothing laws.took_joined c.args.note.now m.state.place w c.in-Some.text c.in-Some.ensures c.requires.printed))

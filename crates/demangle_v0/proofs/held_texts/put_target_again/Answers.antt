@@ -26,7 +26,7 @@ returns-clause-ran g c k =
     let holds : HoldsTarget sink b form c.args.out.now t = subst (λ z. HoldsTarget sink b form c.args.out.now z) (sym (c.text-held.ensures ∙ ap text_of found.1)) (held_entry sink b form c.args.out.now c.args.texts.now c.entry_of.result c.in-Some-get.stored.now c.requires.held found.3.0) in
     let is : IsTextOf t m.continuation m.state = c.is_of.ensures c.if-not-is_of.false in
     record {
-      ran = put_ran sink b form g.met.S.TextSink.took_split g.met.S.TextSink.took_nothing m.continuation m.state c.args.out.now c.put_again.new.self t m.looks c.requires.target is holds (target_deep m.continuation m.state.depth_left m.state.lifetimes c.requires.target c.requires.valid.fits) c.requires.ready (c.put_again.ensures.put c.if-not-put_again.false);
+      ran = put_ran sink b form g.met.S.TextSink.took_nothing m.continuation m.state c.args.out.now c.put_again.new.self t m.looks c.requires.target is holds (target_deep m.continuation m.state.depth_left m.state.lifetimes c.requires.target c.requires.valid.fits) c.requires.ready (c.put_again.ensures.put c.if-not-put_again.false);
       is = refl;
       paid = c.pay_copy.ensures.paid;
       later = put_later sink b form m.continuation m.state c.args.out.now c.put_again.new.self t is holds (target_deep m.continuation m.state.depth_left m.state.lifetimes c.requires.target c.requires.valid.fits) (c.put_again.ensures.put c.if-not-put_again.false);

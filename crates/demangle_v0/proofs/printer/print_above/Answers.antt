@@ -156,7 +156,7 @@ run_target-requires-clause-held g c =
     let same : Same c.args.parser.now c.resume.new.self = (c.in-Some.ensures.same.0 ∙ c.steps.invariant.same.0, c.in-Some.ensures.same.1 ∙ c.steps.invariant.same.1, c.in-Some.ensures.same.2 ∙ c.steps.invariant.same.2) in
     let laws = g.met.S.TextSink in
     let split = split_frames c.args.parser.now.stack.frames c.args.scope.base c.requires.above in
-    rw (same.0, same.1) (held_along g.S.TextSink c.args.parser.now.source.symbol.now c.args.parser.now.source.form laws.took_nothing laws.took_joined laws.took_held c.args.scope.texts.now c.requires.ready c.requires.held (c.steps.invariant.ran split.0 split.1 split.2 split.3))
+    rw (same.0, same.1) (held_along g.S.TextSink c.args.parser.now.source.symbol.now c.args.parser.now.source.form laws.took_nothing laws.took_joined c.args.scope.texts.now c.requires.ready c.requires.held (c.steps.invariant.ran split.0 split.1 split.2 split.3))
 
 pub steps-smaller-then-is_target : goal.steps-smaller-then-is_target
 steps-smaller-then-is_target g c =

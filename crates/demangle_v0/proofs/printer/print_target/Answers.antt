@@ -30,7 +30,7 @@ returns-in-Some-clause-held g c = λ _.
     let k = c.print_above.new.parser in
     let laws = g.met.S.TextSink in
     let ran = rw (c.unit_of-parser.ensures, c.in-Some.is) at c.in_ok-left.ensures.ran in
-    held_left g.S.TextSink m.source.symbol.now m.source.form laws.took_nothing laws.took_joined laws.took_held c.in-Some.left c.args.texts.now c.requires.ready c.requires.held (target_done g.S.TextSink m.source.symbol.now m.source.form m.continuation m.state c.args.out.now c.print_above.new.out m.looks c.len.result k.looks m.stack.frames k.stack.frames (Ok (Some c.in-Some.left)) (checkpoint_of k) c.requires.target c.len.ensures (λ q. cc) ran)
+    held_left g.S.TextSink m.source.symbol.now m.source.form laws.took_nothing laws.took_joined c.in-Some.left c.args.texts.now c.requires.ready c.requires.held (target_done g.S.TextSink m.source.symbol.now m.source.form m.continuation m.state c.args.out.now c.print_above.new.out m.looks c.len.result k.looks m.stack.frames k.stack.frames (Ok (Some c.in-Some.left)) (checkpoint_of k) c.requires.target c.len.ensures (λ q. cc) ran)
 
 pub end_note-requires-clause-held : goal.end_note-requires-clause-held
 end_note-requires-clause-held g c =
@@ -40,7 +40,7 @@ end_note-requires-clause-held g c =
     let same = c.print_above.ensures.same in
     let ran = rw (c.unit_of-parser.ensures, c.in_default.is) at c.in_ok-left.ensures.ran in
     let over = target_over g.S.TextSink m.source.symbol.now m.source.form m.continuation m.state c.args.out.now c.print_above.new.out m.looks c.len.result k.looks m.stack.frames k.stack.frames (checkpoint_of k) c.requires.target c.len.ensures ran in
-    rw (same.0, same.1) (held_ran g.S.TextSink m.source.symbol.now m.source.form laws.took_nothing laws.took_joined laws.took_held c.args.texts.now c.requires.ready c.requires.held over.1)
+    rw (same.0, same.1) (held_ran g.S.TextSink m.source.symbol.now m.source.form laws.took_nothing laws.took_joined c.args.texts.now c.requires.ready c.requires.held over.1)
 
 pub end_note-requires-clause-printed : goal.end_note-requires-clause-printed
 end_note-requires-clause-printed g c =
@@ -55,6 +55,7 @@ end_note-requires-clause-printed g c =
       deep = rw note.target.1 (target_deep m.continuation m.state.depth_left m.state.lifetimes c.requires.target c.requires.valid.fits);
       before = c.args.out.now;
       start = note.start;
+      laws = note.laws;
       reread = note.reread;
       after = k.state;
       looks = m.looks;
