@@ -16,7 +16,7 @@ use Rattle.demangle_v0_grammar.specs.Reading as reading
 use Rattle.demangle_v0_grammar.specs.References.{path_texts_before, texts_before, is_whole, path_moves}
 use Rattle.demangle_v0.specs.Attempts.{texts_for, is_whole_for}
 use Rattle.demangle_v0_grammar.proofs.ReferenceLaw.{unlimited_texts, unlimited_whole}
-use Rattle.demangle_value.specs.Shape.{LimitedForm, form, texts_within, is_all, marked_unless, path_texts}
+use Rattle.demangle_value.specs.Shape.{LimitedForm, unlimited_form, texts_within, is_all, marked_unless, path_pieces}
 use Rattle.demangle_value.specs.Style.{style_pieces, style_texts, is_style_all}
 use Rattle.demangle_value.specs.declared.value.DemangleStyle.{DemangleStyle}
 use Rattle.demangle_value.specs.declared.value.DemangleStyle.TheVariants.{Legacy, V0}
@@ -51,7 +51,7 @@ kept_marked texts true limit = omega arith
 kept_marked texts false limit = let more = fitting-more texts (marker ∷ []) limit in omega (arith, ap size more.1, size-append (prefix_within texts limit) more.0)
 
 -- without such a limit, a path prints all its texts
-pub unlimited_pieces : (symbol : List ℕ) (include_hash fold_arguments : Bool) → path_texts symbol (form include_hash fold_arguments) ≡ reading.path_texts symbol (reading.form include_hash fold_arguments)
+pub unlimited_pieces : (symbol : List ℕ) (include_hash fold_arguments : Bool) → path_pieces symbol (unlimited_form include_hash fold_arguments) ≡ reading.path_texts symbol (reading.form include_hash fold_arguments)
 unlimited_pieces symbol include_hash fold_arguments =
     let f = reading.form include_hash fold_arguments in
     ap (λ (b : Bool). marked_unless b (path_texts_before None symbol f)) (unlimited_whole symbol f) ∙ unlimited_texts symbol f

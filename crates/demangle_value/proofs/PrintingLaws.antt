@@ -10,8 +10,9 @@ use Rattle.demangle_legacy.specs.Legacy.{IsLegacy, legacy_of}
 use Rattle.demangle_value.specs.Stripped.{is_allowed}
 use Rattle.demangle_value.specs.Symbols.{IsSymbol, form_in, limit_in, pieces_in, handed_in, kept_in, unfolded, handed}
 use Rattle.demangle_value.specs.declared.format.Format.{Format}
-use Rattle.demangle_value.specs.Shape.{form, legacy_pieces}
-use Rattle.demangle_legacy.specs.Unescaped.{unescaped, is_hash, printed_elements, joined_pieces, following_pieces}
+use Rattle.demangle_v0_grammar.specs.Reading.{form}
+use Rattle.demangle_value.specs.Shape.{unlimited_form}
+use Rattle.demangle_legacy.specs.Unescaped.{unescaped, is_hash, printed_elements, joined_pieces, following_pieces, legacy_pieces}
 use Rattle.demangle_sink.proofs.CutLemmas.{size-append, fitting-within}
 use Rattle.demangle_sink.proofs.PrintsLemmas.{cut-within, cut-past}
 use Rattle.demangle_legacy.proofs.LegacyLaws.{legacy_spelled}
@@ -79,10 +80,10 @@ hash-last text elements suffix limit legacy allowed within =
     let read : legacy_of text ≡ Some (elements, suffix) = legacy_spelled text elements suffix legacy in
     let all : legacy_pieces (form true false) elements ≡ joined_pieces elements = ap joined_pieces (printed-all elements) in
     let full : handed text true limit ≡ joined_pieces elements ++ suffix ∷ [] =
-    handed-some_of text (unfolded true limit) (legacy_pieces (form true false) elements, suffix) (pieces-legacy (form true false) text elements suffix read allowed)
+    handed-some_of text (unfolded true limit) (legacy_pieces (form true false) elements, suffix) (pieces-legacy (unlimited_form true false) text elements suffix read allowed)
     ∙ ap (λ xs. xs ++ suffix ∷ []) (cut-within (legacy_pieces (form true false) elements) limit within ∙ all) in
     let short : handed text false limit ≡ cut (joined_pieces (printed_elements false elements)) limit ++ suffix ∷ [] =
-    handed-some_of text (unfolded false limit) (legacy_pieces (form false false) elements, suffix) (pieces-legacy (form false false) text elements suffix read allowed) in
+    handed-some_of text (unfolded false limit) (legacy_pieces (form false false) elements, suffix) (pieces-legacy (unlimited_form false false) text elements suffix read allowed) in
     elim (printed-cases elements) [
       | inl same ↦ inl (short ∙ ap (λ es. cut (joined_pieces es) limit ++ suffix ∷ []) same
           ∙ ap (λ xs. xs ++ suffix ∷ []) (cut-within (joined_pieces elements) limit (subst (λ xs. size xs ≤ limit) all within)) ∙ sym full)

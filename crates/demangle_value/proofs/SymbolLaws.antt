@@ -8,7 +8,8 @@ use Rattle.std.proofs.lemmas.Str.Ascii.{IsAscii-nil, IsAscii-cons}
 use Rattle.std.proofs.lemmas.Bool.Decides.{nat_tests}
 use Rattle.demangle_sink.specs.Cut.{size}
 use Rattle.demangle_legacy.specs.Legacy.{IsLegacyPrefix}
-use Rattle.demangle_value.specs.Shape.{path_texts, legacy_pieces}
+use Rattle.demangle_legacy.specs.Unescaped.{legacy_pieces}
+use Rattle.demangle_value.specs.Shape.{path_pieces}
 use Rattle.demangle_value.specs.Stripped.{stripped, is_thin_lto}
 use Rattle.demangle_value.specs.Symbols.{IsSymbol, form_in, limit_in, handed_in, handed, unfolded}
 use Rattle.demangle_value.specs.declared.format.Format.{Format}
@@ -81,10 +82,10 @@ length-concat (piece ∷ pieces) = omega (arith, length-append piece (concat pie
 pub size_symbol_in : (text : List ℕ) (format : Format) → IsSymbol text → size (handed_in text format) ≤ (limit_in format text) + 20 + length text
 size_symbol_in text format (inl (elements, suffix, legacy, allowed)) =
     let read = legacy_spelled text elements suffix legacy in
-    omega (arith, size-handed text format (legacy_pieces (form_in format text) elements) suffix (pieces-legacy (form_in format text) text elements suffix read allowed), suffix-shorter text elements suffix read)
+    omega (arith, size-handed text format (legacy_pieces format.form elements) suffix (pieces-legacy (form_in format text) text elements suffix read allowed), suffix-shorter text elements suffix read)
 size_symbol_in text format (inr (inner, suffix, v0, allowed)) =
     let read = v0_is_read text inner suffix v0 in
-    omega (arith, size-handed text format (path_texts inner (form_in format text)) suffix (pieces-v0 (form_in format text) text inner suffix read allowed), v0_suffix-shorter text inner suffix read)
+    omega (arith, size-handed text format (path_pieces inner (form_in format text)) suffix (pieces-v0 (form_in format text) text inner suffix read allowed), v0_suffix-shorter text inner suffix read)
 
 pub length_handed_in : (text : List ℕ) (format : Format) → IsSymbol text → length (concat (handed_in text format)) ≤ (limit_in format text) + 20 + length text
 length_handed_in text format is = omega (arith, length-concat (handed_in text format), size_symbol_in text format is)

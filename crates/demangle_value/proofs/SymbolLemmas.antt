@@ -8,7 +8,8 @@ use Rattle.demangle_sink.specs.Cut.{cut, kept}
 use Rattle.demangle_legacy.specs.Legacy.{IsElements, inner_of, legacy_of, elements_of}
 use Rattle.demangle_value.specs.Limits.{text_format}
 use Rattle.demangle_value.specs.Stripped.{is_allowed}
-use Rattle.demangle_value.specs.Shape.{legacy_pieces, LimitedForm, form, is_all, texts_within, path_texts}
+use Rattle.demangle_legacy.specs.Unescaped.{legacy_pieces}
+use Rattle.demangle_value.specs.Shape.{LimitedForm, unlimited_form, is_all, texts_within, path_pieces}
 use Rattle.demangle_v0_grammar.specs.Again.{path_again}
 use Rattle.demangle_v0_grammar.specs.V0.{IsV0, IsV0Prefix, v0_of}
 use Rattle.demangle_value.specs.Symbols.{IsLegacySymbol, IsV0Symbol, IsSymbol, form_in, limit_in, kept_in, if_allowed, read_in, pieces_in, handed_in, again_in, PrintingLooksIn}
@@ -44,25 +45,25 @@ no_legacy text inner suffix is = legacy_no_prefix text (sym (ap inner_of is.1 �
   go prefix (inr (inr e)) = ap (λ p. inner_of (p ++ inner)) e
 
 abbrev legacy_parts : LimitedForm → List (List ℕ) × List ℕ → List (List ℕ) × List ℕ
-legacy_parts form read = (legacy_pieces form read.0, read.1)
+legacy_parts form read = (legacy_pieces form.plain read.0, read.1)
 
 abbrev v0_parts : LimitedForm → List ℕ × List ℕ → List (List ℕ) × List ℕ
-v0_parts form read = (path_texts read.0 form, read.1)
+v0_parts form read = (path_pieces read.0 form, read.1)
 
 -- the pieces of a legacy symbol
 pub pieces-legacy : (form : LimitedForm) (text : List ℕ) (elements : List (List ℕ)) (suffix : List ℕ) → legacy_of text ≡ Some (elements, suffix) → is_allowed suffix ≡ true
-    → pieces_in form text ≡ Some (legacy_pieces form elements, suffix)
+    → pieces_in form text ≡ Some (legacy_pieces form.plain elements, suffix)
 pieces-legacy form text elements suffix e allowed =
     ap (λ read. if_allowed (option_or (option_map (legacy_parts form) read) (option_map (v0_parts form) (v0_of text)))) e
-    ∙ ap (λ b. cond b (Some (legacy_pieces form elements, suffix)) None) allowed
+    ∙ ap (λ b. cond b (Some (legacy_pieces form.plain elements, suffix)) None) allowed
 
 -- the pieces of a v0 symbol
 pub pieces-v0 : (form : LimitedForm) (text inner suffix : List ℕ) → v0_of text ≡ Some (inner, suffix) → is_allowed suffix ≡ true
-    → pieces_in form text ≡ Some (path_texts inner form, suffix)
+    → pieces_in form text ≡ Some (path_pieces inner form, suffix)
 pieces-v0 form text inner suffix e allowed =
     ap (λ read. if_allowed (option_or (option_map (legacy_parts form) read) (option_map (v0_parts form) (v0_of text)))) (no_legacy text inner suffix (read_is_v0 text inner suffix e))
     ∙ ap (λ read. if_allowed (option_map (v0_parts form) read)) e
-    ∙ ap (λ b. cond b (Some (path_texts inner form, suffix)) None) allowed
+    ∙ ap (λ b. cond b (Some (path_pieces inner form, suffix)) None) allowed
 
 -- a text that no scheme accepts, or with another suffix, is one piece
 pub no_pieces : (form : LimitedForm) (text : List ℕ) → legacy_of text ≡ None → v0_of text ≡ None → pieces_in form text ≡ None
@@ -73,13 +74,13 @@ no_pieces form text legacy v0 =
 pub no_pieces-legacy : (form : LimitedForm) (text : List ℕ) (elements : List (List ℕ)) (suffix : List ℕ) → legacy_of text ≡ Some (elements, suffix) → is_allowed suffix ≡ false → pieces_in form text ≡ None
 no_pieces-legacy form text elements suffix e other =
     ap (λ read. if_allowed (option_or (option_map (legacy_parts form) read) (option_map (v0_parts form) (v0_of text)))) e
-    ∙ ap (λ b. cond b (Some (legacy_pieces form elements, suffix)) None) other
+    ∙ ap (λ b. cond b (Some (legacy_pieces form.plain elements, suffix)) None) other
 
 pub no_pieces-v0 : (form : LimitedForm) (text inner suffix : List ℕ) → v0_of text ≡ Some (inner, suffix) → is_allowed suffix ≡ false → pieces_in form text ≡ None
 no_pieces-v0 form text inner suffix e other =
     ap (λ read. if_allowed (option_or (option_map (legacy_parts form) read) (option_map (v0_parts form) (v0_of text)))) (no_legacy text inner suffix (read_is_v0 text inner suffix e))
     ∙ ap (λ read. if_allowed (option_map (v0_parts form) read)) e
-    ∙ ap (λ b. cond b (Some (path_texts inner form, suffix)) None) other
+    ∙ ap (λ b. cond b (Some (path_pieces inner form, suffix)) None) other
 
 pub none≢some : {x : List (List ℕ) × List ℕ} → None ≡ Some x → ⊥
 none≢some h = cc
@@ -99,9 +100,9 @@ symbol-pieces form text r e = let h = allowed-some (read_in form text) r e in go
 -- a symbol has pieces
 pub pieces-symbol : (form : LimitedForm) (text : List ℕ) → IsSymbol text → (r : List (List ℕ) × List ℕ) × (pieces_in form text ≡ Some r)
 pieces-symbol form text (inl (elements, suffix, legacy, allowed)) =
-    ((legacy_pieces form elements, suffix), pieces-legacy form text elements suffix (legacy_spelled text elements suffix legacy) allowed)
+    ((legacy_pieces form.plain elements, suffix), pieces-legacy form text elements suffix (legacy_spelled text elements suffix legacy) allowed)
 pieces-symbol form text (inr (inner, suffix, v0, allowed)) =
-    ((path_texts inner form, suffix), pieces-v0 form text inner suffix (v0_is_read text inner suffix v0) allowed)
+    ((path_pieces inner form, suffix), pieces-v0 form text inner suffix (v0_is_read text inner suffix v0) allowed)
 
 -- the pieces of a text with a style
 pub styled-pieces : (form : LimitedForm) (text : List ℕ) (style : DemangleStyle) (suffix : List ℕ) → HasStyle text style suffix → pieces_in form text ≡ Some (style_pieces form style, suffix)
@@ -128,7 +129,7 @@ style_looks-most text format (Legacy symbol) suffix has =
 style_looks-most text format (V0 symbol) suffix has =
     let inner : length symbol ≤ length text = has.inner in
     let same = kept_in-some text format (V0 symbol) suffix has in
-    let marked : kept (texts_within symbol (form_in format text)) (limit_in format text) ≤ kept (path_texts symbol (form_in format text)) (limit_in format text) = kept_marked (texts_within symbol (form_in format text)) (is_all symbol (form_in format text)) (limit_in format text) in
+    let marked : kept (texts_within symbol (form_in format text)) (limit_in format text) ≤ kept (path_pieces symbol (form_in format text)) (limit_in format text) = kept_marked (texts_within symbol (form_in format text)) (is_all symbol (form_in format text)) (limit_in format text) in
     mul-le (100000 * (kept (texts_within symbol (form_in format text)) (limit_in format text) + 1)) (length symbol + 1) (100000 * (kept_in text format + 1)) (length text + 1) (omega (arith, same, marked)) (omega arith)
 
 style_looks_again-most : (text : List ℕ) (format : Format) (style : DemangleStyle) (suffix : List ℕ) → HasStyle text style suffix
@@ -149,10 +150,10 @@ style_least-v0 text (Legacy symbol) suffix has is = absurd (none≢some (sym (no
 style_least-v0 text (V0 symbol) suffix has is = refl
 
 pub symbol_styled : (text : List ℕ) (style : DemangleStyle) (suffix : List ℕ) → HasStyle text style suffix → IsSymbol text
-symbol_styled text style suffix has = symbol-pieces (form true false) text (style_pieces (form true false) style, suffix) (styled-pieces (form true false) text style suffix has)
+symbol_styled text style suffix has = symbol-pieces (unlimited_form true false) text (style_pieces (unlimited_form true false) style, suffix) (styled-pieces (unlimited_form true false) text style suffix has)
 
 pub no_symbol_unstyled : (text : List ℕ) → HasNoStyle text → IsSymbol text → ⊥
-no_symbol_unstyled text none symbol = let some = pieces-symbol (form true false) text symbol in none≢some (sym (none (form true false)) ∙ some.1)
+no_symbol_unstyled text none symbol = let some = pieces-symbol (unlimited_form true false) text symbol in none≢some (sym (none (unlimited_form true false)) ∙ some.1)
 
 -- the looks of printing a text with this style, and one without a style
 pub styled_looks : (text : List ℕ) (format : Format) (style : DemangleStyle) (suffix : List ℕ) (old new : ℕ) → HasStyle text style suffix

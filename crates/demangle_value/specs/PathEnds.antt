@@ -3,7 +3,7 @@ use Rattle.std.specs.Prelude.{false, ℕ, ◌-◌, Bool, true, List, [], ◌∷�
 use Rattle.std.specs.List.{list_all}
 use Rattle.std.specs.Option.{option_map_or}
 use Rattle.demangle_sink.specs.Cut.{cut}
-use Rattle.demangle_value.specs.Shape.{form, path_texts}
+use Rattle.demangle_v0_grammar.specs.Reading.{form, path_texts}
 use Rattle.demangle_v0_grammar.specs.V0.{v0_inner}
 use Rattle.demangle_value.specs.Symbols.{pieces_of, handed}
 

@@ -1,7 +1,6 @@
--- What a symbol prints without a limit of bytes.
+-- What a v0 symbol prints without a limit of bytes, and the form of each symbol.
 use Rattle.std.specs.Prelude.{ℕ, Bool, true, false, List, [], ◌∷◌, ◌++◌, Option, None}
 use Rattle.demangle_sink.specs.Cut.{marker}
-use Rattle.demangle_legacy.specs.Unescaped as legacy
 use Rattle.demangle_v0_grammar.specs.Reading as reading
 use Rattle.demangle_v0_grammar.specs.References.{path_texts_before, is_path_whole}
 use Rattle.demangle_value.specs.declared.format.TextFormat.{TextFormat}
@@ -12,8 +11,8 @@ pub record LimitedForm : Type 0 where
   pub reread : Option ℕ
 
 -- the form without a limit of the bytes that are read again
-abbrev pub form : (include_hash fold_arguments : Bool) → LimitedForm
-form include_hash fold_arguments = record { plain = reading.form include_hash fold_arguments; reread = None }
+abbrev pub unlimited_form : (include_hash fold_arguments : Bool) → LimitedForm
+unlimited_form include_hash fold_arguments = record { plain = reading.form include_hash fold_arguments; reread = None }
 
 -- the form of a text whose format has limits
 abbrev pub limited : TextFormat → LimitedForm
@@ -31,9 +30,5 @@ marked_unless true texts = texts
 marked_unless false texts = texts ++ marker ∷ []
 
 -- the pieces of a v0 symbol: its texts up to the limit of the bytes that are read again, and then the marker if they are not all
-abbrev pub path_texts : List ℕ → LimitedForm → List (List ℕ)
-path_texts symbol form = marked_unless (is_all symbol form) (texts_within symbol form)
-
--- the pieces of a legacy symbol, of which nothing is read again
-abbrev pub legacy_pieces : LimitedForm → List (List ℕ) → List (List ℕ)
-legacy_pieces form elements = legacy.legacy_pieces form.plain elements
+abbrev pub path_pieces : List ℕ → LimitedForm → List (List ℕ)
+path_pieces symbol form = marked_unless (is_all symbol form) (texts_within symbol form)

@@ -6,19 +6,20 @@ use Rattle.demangle_value.specs.declared.value.DemangleStyle.TheVariants.{Legacy
 use Rattle.demangle_sink.specs.Cut.{kept}
 use Rattle.demangle_legacy.specs.Legacy.{legacy_of, elements_of}
 use Rattle.demangle_v0_grammar.specs.Again.{path_again}
-use Rattle.demangle_value.specs.Shape.{LimitedForm, path_texts, texts_within, is_all, legacy_pieces}
+use Rattle.demangle_legacy.specs.Unescaped.{legacy_pieces}
+use Rattle.demangle_value.specs.Shape.{LimitedForm, path_pieces, texts_within, is_all}
 use Rattle.demangle_value.specs.Stripped.{is_allowed}
 use Rattle.demangle_value.specs.Symbols.{pieces_in}
 use Rattle.demangle_v0_grammar.specs.V0.{v0_of}
 
 -- the pieces of a symbol of this style
 abbrev pub style_pieces : LimitedForm → DemangleStyle → List (List ℕ)
-style_pieces form (Legacy symbol) = legacy_pieces form (elements_of symbol)
-style_pieces form (V0 symbol) = path_texts symbol form
+style_pieces form (Legacy symbol) = legacy_pieces form.plain (elements_of symbol)
+style_pieces form (V0 symbol) = path_pieces symbol form
 
 -- the texts of a symbol of this style up to the limit of the bytes that are read again, and whether they are all
 abbrev pub style_texts : LimitedForm → DemangleStyle → List (List ℕ)
-style_texts form (Legacy symbol) = legacy_pieces form (elements_of symbol)
+style_texts form (Legacy symbol) = legacy_pieces form.plain (elements_of symbol)
 style_texts form (V0 symbol) = texts_within symbol form
 
 abbrev pub is_style_all : LimitedForm → DemangleStyle → Bool

@@ -6,7 +6,8 @@ use Rattle.demangle_sink.specs.Cut.{cut, kept}
 use Rattle.demangle_legacy.specs.Legacy.{IsLegacy, legacy_of}
 use Rattle.demangle_v0_grammar.specs.Again.{path_again}
 use Rattle.demangle_v0_grammar.specs.Reading as reading
-use Rattle.demangle_value.specs.Shape.{LimitedForm, form, limited, path_texts, legacy_pieces}
+use Rattle.demangle_legacy.specs.Unescaped.{legacy_pieces}
+use Rattle.demangle_value.specs.Shape.{LimitedForm, unlimited_form, limited, path_pieces}
 use Rattle.demangle_value.specs.Limits.{most_bytes, text_format}
 use Rattle.demangle_value.specs.Stripped.{is_allowed}
 use Rattle.demangle_value.specs.declared.format.Format.{Format}
@@ -35,8 +36,8 @@ if_allowed (Some (x, suffix)) = if is_allowed suffix then Some (x, suffix) else 
 -- The pieces and the suffix of a text in the scheme that accepts it, in a form. The arguments of a legacy symbol are
 -- parts of names, so only a v0 symbol has arguments to fold. No text has a prefix of both schemes.
 abbrev pub read_in : LimitedForm → List ℕ → Option (List (List ℕ) × List ℕ)
-read_in form text = option_or (option_map (λ read. (legacy_pieces form read.0, read.1)) (legacy_of text))
-    (option_map (λ read. (path_texts read.0 form, read.1)) (v0_of text))
+read_in form text = option_or (option_map (λ read. (legacy_pieces form.plain read.0, read.1)) (legacy_of text))
+    (option_map (λ read. (path_pieces read.0 form, read.1)) (v0_of text))
 
 -- the pieces and the suffix of a symbol, in a form
 abbrev pub pieces_in : LimitedForm → List ℕ → Option (List (List ℕ) × List ℕ)
@@ -84,7 +85,7 @@ linear hash = bounded (reading.form hash false) size.Linear
 -- The same with or without the hash, and with generic arguments.
 
 abbrev pub pieces_of : Bool → List ℕ → Option (List (List ℕ) × List ℕ)
-pieces_of hash text = pieces_in (form hash false) text
+pieces_of hash text = pieces_in (unlimited_form hash false) text
 
 abbrev pub handed : List ℕ → Bool → ℕ → List (List ℕ)
 handed text hash limit = handed_in text (unfolded hash limit)

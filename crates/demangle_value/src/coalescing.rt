@@ -104,10 +104,6 @@ impl<'s, S: TextSink, const MOST: usize> TextSink for CoalescingSink<'s, S, MOST
     ghost took_nothing = { λ s. PassedOn-nothing S.took S.took_nothing s };
 
     ghost took_joined = { λ s t u xs ys h k. PassedOn-joined S.took S.took_joined s t u xs ys h k };
-
-    ghost took_held = { λ s t xs h. tt };
-
-    ghost took_split = { λ s u xs ys c a h. cc c };
 }
 
 /// Prints a symbol into a sink, as `Demangle::write_to` does, and passes its pieces on together.

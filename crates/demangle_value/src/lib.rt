@@ -13,7 +13,7 @@ pub mod value;
 
 use demangle_symbol::cursor::Looks;
 use strip::without_thin_lto;
-use value::Demangle;
+use value::{Demangle, has_style};
 
 /// The error for a text that is not a Rust symbol.
 #[derive(Debug, Clone, Drop)]
@@ -66,9 +66,11 @@ pub fn try_demangle_counted<'a>(
     ensures none { OnErr result (IsSymbol (stripped s.now) → ⊥) }
     ensures grows { looks.old ≤ looks.new }
     ensures most { looks.new ≤ looks.old + 64 * (length s.now + 1) }
+    ensures least { IsSymbol (stripped s.now) →
+        looks.old + (length (stripped s.now) - 4) ≤ looks.new }
 {
     let symbol = demangle_counted(s, looks);
-    if symbol.has_style() {
+    if has_style(&symbol) {
         Ok(symbol)
     } else {
         Err(TryDemangleError { _priv: () })

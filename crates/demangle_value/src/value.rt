@@ -208,31 +208,25 @@ impl<'a> Demangle<'a> {
         let allowed = is_allowed(suffix, looks);
         Demangle::with_style(text, style, suffix, allowed)
     }
+}
 
-    /// Parses a run as a symbol, and counts its looks. Keeps it as it is if it is not one. A run is
-    /// ASCII.
-    pub fn read_run_counted(run: &'a str, looks: &mut Looks) -> Demangle<'a>
-        requires { list_all is_run_byte run.now ≡ true }
-        ensures text { result ≡ stripped run.now }
-        ensures grows { looks.old ≤ looks.new }
-        ensures most { looks.new ≤ looks.old + 61 * (length run.now + 1) }
-    {
-        Demangle::read(without_thin_lto(run), true, looks)
-    }
+// Free functions for the crate above, which does not export them. A method would be public there too.
 
-    /// Parses a run as a symbol, and keeps it as it is if it is not one. A run is ASCII.
-    pub fn read_run(run: &'a str) -> Demangle<'a>
-        requires { list_all is_run_byte run.now ≡ true }
-        ensures { result ≡ stripped run.now }
-    {
-        Demangle::read_run_counted(run, &mut Looks::new())
-    }
+/// Parses a run as a symbol, and counts its looks. Keeps it as it is if it is not one. A run is
+/// ASCII.
+pub fn read_run<'a>(run: &'a str, looks: &mut Looks) -> Demangle<'a>
+    requires { list_all is_run_byte run.now ≡ true }
+    ensures text { result ≡ stripped run.now }
+    ensures grows { looks.old ≤ looks.new }
+    ensures most { looks.new ≤ looks.old + 61 * (length run.now + 1) }
+{
+    Demangle::read(without_thin_lto(run), true, looks)
+}
 
-    /// Returns whether the text is a symbol.
-    pub fn has_style(&self) -> bool
-        ensures yes { IsTrue result → IsSymbol self.now }
-        ensures no { result ≡ false → IsSymbol self.now → ⊥ }
-    {
-        self.style.is_some()
-    }
+/// Returns whether a text is a symbol.
+pub fn has_style(text: &Demangle<'_>) -> bool
+    ensures yes { IsTrue result → IsSymbol text.now }
+    ensures no { result ≡ false → IsSymbol text.now → ⊥ }
+{
+    text.style.is_some()
 }

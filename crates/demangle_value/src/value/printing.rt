@@ -50,26 +50,27 @@ fn write_cut<S: TextSink>(
     }
 }
 
-impl Demangle<'_> {
-    /// Writes the pieces of the symbol into a sink, cut at the limit before the suffix, and counts
-    /// its looks. Fails if the sink fails.
-    pub fn write_pieces<S: TextSink>(
-        &self,
-        out: &mut S,
-        format: Format,
-        looks: &mut Looks,
-    ) -> Result<(), SinkRefused>
-        requires { S.failed out.old ≡ false }
-        ensures hands { PutsPieces S.TextSink out.old (handed_in self.now format) result out.new }
-        ensures looks { PrintingLooksIn self.now format looks.old looks.new }
-    {
-        let Some(style) = &self.style else {
-            return put_piece(self.original, out);
-        };
-        write_cut(style, out, format.for_text(self.original.len()), looks)?;
-        put_piece(self.suffix, out)
-    }
+/// Writes the pieces of a symbol into a sink, cut at the limit before the suffix, and counts its
+/// looks. Fails if the sink fails.
+pub fn write_pieces<S: TextSink>(
+    symbol: &Demangle<'_>,
+    out: &mut S,
+    format: Format,
+    looks: &mut Looks,
+) -> Result<(), SinkRefused>
+    requires { S.failed out.old ≡ false }
+    ensures hands { PutsPieces S.TextSink out.old (handed_in symbol.now format) result out.new }
+    ensures looks { PrintingLooksIn symbol.now format looks.old looks.new }
+{
+    let Some(style) = &symbol.style else {
+        return put_piece(symbol.original, out);
+    };
+    let limits = TextFormat::for_text(format, symbol.original.len());
+    write_cut(style, out, limits, looks)?;
+    put_piece(symbol.suffix, out)
+}
 
+impl Demangle<'_> {
     /// Prints into a sink in a format, and counts its looks, as `write_limited_counted` does.
     pub fn write_formatted_counted<S: TextSink>(
         &self,
@@ -81,7 +82,7 @@ impl Demangle<'_> {
         ensures writes { Writes S.TextSink out.old (handed_in self.now format) result out.new }
         ensures looks { PrintingLooksIn self.now format looks.old looks.new }
     {
-        self.write_pieces(out, format, looks)
+        write_pieces(self, out, format, looks)
     }
 
     /// Prints into a sink in a format, as `write_formatted_counted` does.
@@ -237,7 +238,8 @@ fn text_limit(run: &str, format: TextFormat) -> usize
 /// are none if the path may be too long for a buffer, so that it is not printed in vain.
 #[inline(always)]
 fn text_withheld(format: TextFormat, limit: usize) -> usize
-    ensures { result ≤ format.limit - limit }
+    ensures most { result ≤ format.limit - limit }
+    ensures all { format.limit ≤ most_bytes → result ≡ format.limit - limit }
 {
     if format.limit > MAX_SIZE {
         return 0;
@@ -252,13 +254,13 @@ pub enum Tried<'a> {
     Printed,
     /// The run was read as this text, symbol or not. A part of a path may be printed.
     Read(Demangle<'a>),
-    /// Nothing is known, and a part of a path may be printed. `Demangle::read_run` says what the run
-    /// is.
+    /// Nothing is known, and a part of a path may be printed. `read_run` says what the run is.
     Unknown,
 }
 
 /// Prints a v0 run before it is known to be a symbol, as `demangle_v0::demangle_printed` does, and
-/// counts its looks. A run is ASCII. Returns what is known of it then.
+/// counts its looks. A run is ASCII. Returns what is known of it then, and how much fuel the
+/// references of one that was not printed used up.
 ///
 /// Nothing is known of a path that is much longer than the run, unless the run was validated before
 /// its end was printed.
@@ -268,40 +270,57 @@ pub fn print_v0_run<'a, S: TextSink>(
     out: &mut S,
     format: Format,
     looks: &mut RunLooks,
-) -> Tried<'a>
+) -> (Tried<'a>, usize)
     requires run { list_all is_run_byte run.now ≡ true }
     requires not_failed { S.failed out.old ≡ false }
-    ensures took { result ≡ Tried.Printed →
+    ensures took { result.0 ≡ Tried.Printed →
         S.took out.old (replacement_in format run.now) out.new }
-    ensures read { IsRunRead run.now result }
+    ensures read { IsRunRead run.now result.0 }
     ensures grows { looks.old.accepting_looks ≤ looks.new.accepting_looks }
     ensures most { looks.new.accepting_looks ≤ looks.old.accepting_looks + 143 * (length run.now + 1) }
-    ensures early { result ≡ Tried.Unknown → looks.new.accepting_looks
+    ensures early { result.0 ≡ Tried.Unknown → looks.new.accepting_looks
         ≤ looks.old.accepting_looks + 85 * (length run.now + 1) + 8 }
+    ensures apart { looks.old.printing_looks ≤ looks.new.printing_looks }
     ensures prints { PrintsLinear format 1 (length run.now) looks.old.printing_looks
         looks.new.printing_looks }
 {
     let text = without_thin_lto(run);
-    let limits = format.for_text(text.len());
+    let limits = TextFormat::for_text(format, text.len());
     let limit = text_limit(run, limits);
     let mut limited = SizeLimitedFmtAdapter::with_reread(out, limit, limits.reread);
-    let first = FirstPrint {
+    let mut first = FirstPrint {
         form: limits.form,
         withheld: text_withheld(limits, limit),
+        fuel: 0,
     };
-    match demangle_v0::demangle_printed(text, &mut limited, first, looks) {
+    match demangle_v0::demangle_printed(text, &mut limited, &mut first, looks) {
         Printed::Symbol(symbol, suffix) => {
             let allowed = is_allowed(suffix, &mut looks.accepting_looks);
             if allowed && put_piece(suffix, out).is_ok() {
-                return Tried::Printed;
+                return (Tried::Printed, 0);
             }
             let style = DemangleStyle::V0(symbol);
-            Tried::Read(Demangle::with_style(text, style, suffix, allowed))
+            let read = Demangle::with_style(text, style, suffix, allowed);
+            (Tried::Read(read), first.fuel)
+        }
+        Printed::Cut(symbol, suffix) => {
+            let allowed = is_allowed(suffix, &mut looks.accepting_looks);
+            // With a greater limit, the path was not printed up to it.
+            if allowed && limits.limit <= MAX_SIZE {
+                let marked = put_piece("{size limit reached}", out);
+                if marked.is_ok() && put_piece(suffix, out).is_ok() {
+                    return (Tried::Printed, 0);
+                }
+            }
+            let style = DemangleStyle::V0(symbol);
+            let read = Demangle::with_style(text, style, suffix, allowed);
+            (Tried::Read(read), first.fuel)
         }
         Printed::Part(symbol, suffix) => {
             let allowed = is_allowed(suffix, &mut looks.accepting_looks);
             let style = DemangleStyle::V0(symbol);
-            Tried::Read(Demangle::with_style(text, style, suffix, allowed))
+            let read = Demangle::with_style(text, style, suffix, allowed);
+            (Tried::Read(read), first.fuel)
         }
         // A text with the prefix of v0 has not that of the legacy scheme, so this ends at once.
         Printed::NoSymbol => match demangle_legacy::demangle(
@@ -312,19 +331,19 @@ pub fn print_v0_run<'a, S: TextSink>(
             Ok((symbol, suffix)) => {
                 let allowed = is_allowed(suffix, &mut looks.accepting_looks);
                 let style = DemangleStyle::Legacy(symbol);
-                Tried::Read(Demangle::with_style(text, style, suffix, allowed))
+                let read = Demangle::with_style(text, style, suffix, allowed);
+                (Tried::Read(read), first.fuel)
             }
-            Err(()) => Tried::Read(Demangle::without_style(text)),
+            Err(()) => (Tried::Read(Demangle::without_style(text)), first.fuel),
         },
-        Printed::Unknown => Tried::Unknown,
+        Printed::Unknown => (Tried::Unknown, first.fuel),
     }
 }
 
 /// Prints a run that is a legacy symbol, in one pass, and counts its looks. A run is ASCII.
 ///
 /// Returns `false` if the run is not a legacy symbol, as `demangle_legacy::demangle_printed` does.
-/// Then an unknown part of the symbol may be in the sink, and `Demangle::read_run` says what the
-/// run is.
+/// Then an unknown part of the symbol may be in the sink, and `read_run` says what the run is.
 #[inline(never)]
 pub fn print_legacy_run<S: TextSink>(
     run: &str,
@@ -340,7 +359,7 @@ pub fn print_legacy_run<S: TextSink>(
     ensures most { looks.new ≤ looks.old + 18 * (length run.now + 1) }
 {
     let text = without_thin_lto(run);
-    let limits = format.for_text(text.len());
+    let limits = TextFormat::for_text(format, text.len());
     let mut limited = SizeLimitedFmtAdapter::new(out, limits.limit);
     let read = demangle_legacy::demangle_printed(text, &mut limited, limits.form, looks);
     let Some((_, suffix)) = read else {
@@ -366,12 +385,13 @@ fn write_pieces_with_path_len<S: TextSink>(
     let mut looks = Looks::new();
     let Some(symbol) = demangle_v0::ascii_symbol(text, &mut looks) else {
         let read = Demangle::read(text, false, &mut looks);
-        return read.write_pieces(out, format, &mut looks);
+        return write_pieces(&read, out, format, &mut looks);
     };
     // The caller may pass any number.
     let suffix = &text[path_len.min(text.len())..];
     let style = DemangleStyle::V0(symbol);
-    write_cut(&style, out, format.for_text(text.len()), &mut looks)?;
+    let limits = TextFormat::for_text(format, text.len());
+    write_cut(&style, out, limits, &mut looks)?;
     put_piece(suffix, out)
 }
 

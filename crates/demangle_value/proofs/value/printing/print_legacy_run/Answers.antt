@@ -3,7 +3,8 @@ use Rattle.std.specs.List.{concat}
 use Rattle.std.proofs.Common.{◌≡◌, ℕ, true, List, [], ◌∷◌, ◌++◌, Result, Ok, Err, is_ok, OnOk, Some, length, arith, refl, sym, subst, ap, ◌∙◌, inl, rules}
 use Rattle.std.proofs.lemmas.Bool.{false≢true}
 use Rattle.demangle_legacy.specs.Legacy.{legacy_of}
-use Rattle.demangle_value.specs.Shape.{legacy_pieces, limited}
+use Rattle.demangle_legacy.specs.Unescaped.{legacy_pieces}
+use Rattle.demangle_value.specs.Shape.{limited}
 use Rattle.demangle_legacy.proofs.LegacyLaws.{legacy_read}
 use Rattle.demangle_sink.specs.Cut.{cut}
 use Rattle.demangle_sink.specs.declared.SinkRefused.{SinkRefused}
@@ -24,17 +25,17 @@ use Rattle.demangle_value.proofs.value.printing.print_legacy_run.Goals as goal
 
 -- the text that a legacy symbol prints replaces its run
 legacy_replaced : (run text : List ℕ) (elements : List (List ℕ)) (suffix : List ℕ) (format : Format) → text ≡ stripped run → legacy_of text ≡ Some (elements, suffix) → is_allowed suffix ≡ true
-    → concat (cut (legacy_pieces (form_in format text) elements) (limit_in format text) ++ suffix ∷ []) ≡ replacement_in format run
+    → concat (cut (legacy_pieces format.form elements) (limit_in format text) ++ suffix ∷ []) ≡ replacement_in format run
 legacy_replaced run text elements suffix format same read allowed =
-    let whole = handed-some_of text format (legacy_pieces (form_in format text) elements, suffix) (pieces-legacy (form_in format text) text elements suffix read allowed) in
+    let whole = handed-some_of text format (legacy_pieces format.form elements, suffix) (pieces-legacy (form_in format text) text elements suffix read allowed) in
     let is : IsSymbol text = inl (elements, suffix, legacy_read text elements suffix read, allowed) in
     sym (ap concat whole) ∙ symbol_replaced run text format same is
 
 -- the same for the limits of the text
 legacy_text : (run text : List ℕ) (elements : List (List ℕ)) (suffix : List ℕ) (format : Format) (limits : TextFormat) → limits ≡ text_format format (length text) → text ≡ stripped run → legacy_of text ≡ Some (elements, suffix) → is_allowed suffix ≡ true
-    → concat (cut (legacy_pieces (limited limits) elements) limits.limit ++ suffix ∷ []) ≡ replacement_in format run
+    → concat (cut (legacy_pieces limits.form elements) limits.limit ++ suffix ∷ []) ≡ replacement_in format run
 legacy_text run text elements suffix format limits so same read allowed =
-    ap (λ (f : TextFormat). concat (cut (legacy_pieces (limited f) elements) f.limit ++ suffix ∷ [])) so ∙ legacy_replaced run text elements suffix format same read allowed
+    ap (λ (f : TextFormat). concat (cut (legacy_pieces f.form elements) f.limit ++ suffix ∷ [])) so ∙ legacy_replaced run text elements suffix format same read allowed
 
 pub demangle_printed-read-requires-clause-ascii : goal.demangle_printed-read-requires-clause-ascii
 demangle_printed-read-requires-clause-ascii g c = subst IsAscii (sym c.without_thin_lto-text.ensures) (IsAscii-stripped c.args.run.now (all_ascii c.args.run.now c.requires.run))

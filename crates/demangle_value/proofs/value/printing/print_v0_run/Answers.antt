@@ -3,7 +3,7 @@ use Rattle.std.specs.List.{concat}
 use Rattle.std.proofs.Common.{◌≡◌, ◌≤◌, ℕ, ◌+◌, ◌*◌, Bool, true, List, [], ◌∷◌, ◌++◌, Result, Ok, Err, is_ok, OnOk, Some, length, arith, refl, sym, subst, ap, ◌∙◌, inr, rules}
 use Rattle.std.proofs.lemmas.Bool.{false≢true}
 use Rattle.demangle_legacy.specs.Legacy.{elements_of}
-use Rattle.demangle_value.specs.Shape.{is_all, limited, marked_unless, path_texts, texts_within}
+use Rattle.demangle_value.specs.Shape.{is_all, limited, marked_unless, path_pieces, texts_within}
 use Rattle.demangle_v0_grammar.specs.V0.{v0_of}
 use Rattle.demangle_v0_grammar.proofs.V0Reading.{read_is_v0}
 use Rattle.demangle_sink.specs.Cut.{cut, size}
@@ -11,9 +11,9 @@ use Rattle.demangle_sink.specs.declared.SinkRefused.{SinkRefused}
 use Rattle.demangle_sink.specs.Limit.{PrintsUpTo, allowing, unused}
 use Rattle.demangle_sink.specs.declared.limit.Reread.{Reread}
 use Rattle.demangle_sink.proofs.PutsPiecesLemmas.{puts_then, puts_text}
-use Rattle.demangle_sink.proofs.PrintsLemmas.{cut-within, cut_all}
+use Rattle.demangle_sink.proofs.PrintsLemmas.{cut-within, cut_all, cut_over}
 use Rattle.demangle_value.specs.Filtered.{replacement_in}
-use Rattle.demangle_value.specs.Limits.{text_format}
+use Rattle.demangle_value.specs.Limits.{most_bytes, text_format}
 use Rattle.demangle_value.specs.Stripped.{is_allowed, stripped}
 use Rattle.demangle_value.specs.Symbols.{IsSymbol, form_in, limit_in}
 use Rattle.demangle_value.specs.declared.format.Format.{Format}
@@ -23,7 +23,7 @@ use Rattle.demangle_value.proofs.RunLemmas.{symbol_replaced}
 use Rattle.demangle_value.proofs.PrintingLaws.{handed-some_of}
 use Rattle.demangle_value.proofs.Stripping.{IsAscii-stripped, stripped-shorter}
 use Rattle.demangle_value.proofs.SymbolLemmas.{pieces-v0, suffix-shorter}
-use Rattle.demangle_value.proofs.AllReferences.{up_to, up_to_all}
+use Rattle.demangle_value.proofs.AllReferences.{cut_marked, up_to, up_to_all}
 use Rattle.demangle_value.proofs.LinearPrinting.{few_linear}
 use Rattle.demangle_value.specs.LinearPrinting.{PrintsLinear}
 use Rattle.demangle_value.proofs.value.printing.print_v0_run.Goals as goal
@@ -34,9 +34,9 @@ same_cut xs most limit within lower = cut-within xs most within ∙ sym (cut-wit
 
 -- the text that a v0 symbol prints replaces its run
 v0_replaced : (run text inner suffix : List ℕ) (format : Format) → text ≡ stripped run → v0_of text ≡ Some (inner, suffix) → is_allowed suffix ≡ true
-    → concat (cut (path_texts inner (form_in format text)) (limit_in format text) ++ suffix ∷ []) ≡ replacement_in format run
+    → concat (cut (path_pieces inner (form_in format text)) (limit_in format text) ++ suffix ∷ []) ≡ replacement_in format run
 v0_replaced run text inner suffix format same read allowed =
-    let whole = handed-some_of text format (path_texts inner (form_in format text), suffix) (pieces-v0 (form_in format text) text inner suffix read allowed) in
+    let whole = handed-some_of text format (path_pieces inner (form_in format text), suffix) (pieces-v0 (form_in format text) text inner suffix read allowed) in
     let is : IsSymbol text = inr (inner, suffix, read_is_v0 text inner suffix read, allowed) in
     sym (ap concat whole) ∙ symbol_replaced run text format same is
 
@@ -72,11 +72,11 @@ returns-then-is_ok-clause-took g c = λ _.
     refl c.put_piece.ensures in
     let took = puts_text g.S.TextSink c.args.out.now c.put_piece.new.out _ put laws.took_nothing laws.took_joined both in
     let within : size texts ≤ most = omega (arith, prints.within refl, left) in
-    let whole_texts : texts ≡ path_texts inner form = ap (λ (b : Bool). marked_unless b texts) (sym all) in
+    let whole_texts : texts ≡ path_pieces inner form = ap (λ (b : Bool). marked_unless b texts) (sym all) in
     let cut_so =
-    same_cut texts most c.for_text-limits.result.limit within (omega (arith, known.1, c.text_withheld.ensures, c.text_limit-limit.ensures))
+    same_cut texts most c.for_text-limits.result.limit within (omega (arith, known.1, c.text_withheld.ensures.most, c.text_limit-limit.ensures))
     ∙ (ap (λ (xs : List (List ℕ)). cut xs c.for_text-limits.result.limit) whole_texts
-    ∙ ap (λ (f : TextFormat). cut (path_texts inner (limited f)) f.limit) c.for_text-limits.ensures) in
+    ∙ ap (λ (f : TextFormat). cut (path_pieces inner (limited f)) f.limit) c.for_text-limits.ensures) in
     let allowed = sym c.is_allowed-allowed.ensures.allowed ∙ c.if-allowed.true in
     let whole = v0_replaced c.args.run.now c.without_thin_lto-text.result.now inner suffix c.args.format c.without_thin_lto-text.ensures c.in-Symbol.ensures.known.0 allowed in
     let text = ap (λ (pieces : List (List ℕ)). concat (pieces ++ suffix ∷ [])) cut_so ∙ whole in
@@ -142,3 +142,48 @@ returns-in-Err-clause-prints g c =
 pub returns-in-Unknown-clause-prints : goal.returns-in-Unknown-clause-prints
 returns-in-Unknown-clause-prints g c =
     few_of c.args.format c.args.run.now c.without_thin_lto-text.result.now c.for_text-limits.result _ _ _ c.without_thin_lto-text.ensures c.for_text-limits.ensures c.with_reread-limited.ensures.reread c.in-Unknown.ensures.few
+
+pub returns-then-is_ok-3-clause-took : goal.returns-then-is_ok-3-clause-took
+returns-then-is_ok-3-clause-took g c = λ _.
+    let laws = g.met.S.TextSink in
+    let printed = c.demangle_printed.new.out in
+    let inner = c.in-Cut.symbol in
+    let suffix = c.in-Cut.suffix.now in
+    let marked = c.put_piece-marked.result in
+    let put = c.put_piece-then-is_ok-2.result in
+    let limit = c.for_text-limits.result.limit in
+    let form = limited c.for_text-limits.result in
+    let texts = texts_within inner form in
+    let known = c.in-Cut.ensures.known.1 in
+    let out = allowing c.text_withheld.result c.with_reread-limited.result in
+    let small : limit ≤ most_bytes = omega (arith, c.if-limits-le-MAX_SIZE.true) in
+    let left : out.remaining ≡ limit = omega (arith, c.with_reread-limited.ensures.left, c.text_withheld.ensures.all small, c.text_limit-limit.ensures) in
+    let up = up_to g.S.TextSink out printed inner form known.1 c.with_reread-limited.ensures.reread known.2 in
+    let hands = cut_over g.S.TextSink out printed c.args.out.now _ _ limit texts (is_all inner form) known.1 marked c.with_reread-limited.ensures.text left up known.0 (search rules) c.put_piece-marked.ensures in
+    let both =
+    puts_then g.S.TextSink c.args.out.now _ c.put_piece-then-is_ok-2.new.out _ (suffix ∷ []) marked put hands
+    (sym c.is_ok-then-limits-le-MAX_SIZE.ensures.value ∙ c.if-is_ok-2.true) c.put_piece-then-is_ok-2.ensures in
+    let took = puts_text g.S.TextSink c.args.out.now c.put_piece-then-is_ok-2.new.out _ put laws.took_nothing laws.took_joined both in
+    let cut_so =
+    cut_marked texts (is_all inner form) limit
+    ∙ ap (λ (f : TextFormat). cut (path_pieces inner (limited f)) f.limit) c.for_text-limits.ensures in
+    let allowed = sym c.is_allowed-allowed-in-Cut.ensures.allowed ∙ c.if-allowed-2.true in
+    let whole = v0_replaced c.args.run.now c.without_thin_lto-text.result.now inner suffix c.args.format c.without_thin_lto-text.ensures c.in-Cut.ensures.known.0 allowed in
+    let text = ap (λ (pieces : List (List ℕ)). concat (pieces ++ suffix ∷ [])) cut_so ∙ whole in
+    subst (λ t. g.S.TextSink.took c.args.out.now t c.put_piece-then-is_ok-2.new.out) text (when_ok put (sym c.is_ok-then-is_ok-2.ensures.value ∙ c.if-is_ok-3.true) took)
+
+pub returns-then-is_ok-3-clause-most : goal.returns-then-is_ok-3-clause-most
+returns-then-is_ok-3-clause-most g c =
+    omega (arith, c.in-Cut.ensures.most, c.in-Cut.ensures.inner.1, c.is_allowed-allowed-in-Cut.ensures.most, ap length c.without_thin_lto-text.ensures, stripped-shorter c.args.run.now)
+
+pub returns-after-allowed-2-clause-most : goal.returns-after-allowed-2-clause-most
+returns-after-allowed-2-clause-most g c =
+    omega (arith, c.in-Cut.ensures.most, c.in-Cut.ensures.inner.1, c.is_allowed-allowed-in-Cut.ensures.most, ap length c.without_thin_lto-text.ensures, stripped-shorter c.args.run.now)
+
+pub returns-then-is_ok-3-clause-prints : goal.returns-then-is_ok-3-clause-prints
+returns-then-is_ok-3-clause-prints g c =
+    few_of c.args.format c.args.run.now c.without_thin_lto-text.result.now c.for_text-limits.result _ _ _ c.without_thin_lto-text.ensures c.for_text-limits.ensures c.with_reread-limited.ensures.reread c.in-Cut.ensures.few
+
+pub returns-after-allowed-2-clause-prints : goal.returns-after-allowed-2-clause-prints
+returns-after-allowed-2-clause-prints g c =
+    few_of c.args.format c.args.run.now c.without_thin_lto-text.result.now c.for_text-limits.result _ _ _ c.without_thin_lto-text.ensures c.for_text-limits.ensures c.with_reread-limited.ensures.reread c.in-Cut.ensures.few

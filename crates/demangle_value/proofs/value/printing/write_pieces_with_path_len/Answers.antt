@@ -14,7 +14,7 @@ returns-in_err-write_cut g c =
     let suffix = c.range_from-suffix.result.now in
     rw (handed_with_path_len-cut text c.args.path_len c.args.include_hash c.args.limit c.in-Some.symbol suffix c.in-Some.ensures.ascii c.in-Some.ensures.some
     (c.range_from-suffix.ensures.value ∙ ap (λ n. drop n text) c.min.ensures))
-    (puts_stop g.S.TextSink c.args.out.now c.write_cut.new.out _ (suffix ∷ []) _ c.from_residual.result (rw (c.for_text.ensures, c.unfolded-format.ensures) at c.in_err-write_cut.ensures.hands) refl c.from_residual.ensures.0)
+    (puts_stop g.S.TextSink c.args.out.now c.write_cut.new.out _ (suffix ∷ []) _ c.from_residual.result (rw (c.for_text-limits.ensures, c.unfolded-format.ensures) at c.in_err-write_cut.ensures.hands) refl c.from_residual.ensures.0)
 
 pub returns : goal.returns
 returns g c =
@@ -22,4 +22,4 @@ returns g c =
     let suffix = c.range_from-suffix.result.now in
     rw (handed_with_path_len-cut text c.args.path_len c.args.include_hash c.args.limit c.in-Some.symbol suffix c.in-Some.ensures.ascii c.in-Some.ensures.some
     (c.range_from-suffix.ensures.value ∙ ap (λ n. drop n text) c.min.ensures))
-    (puts_then g.S.TextSink c.args.out.now c.write_cut.new.out c.put_piece.new.out _ (suffix ∷ []) _ c.put_piece.result (rw (c.for_text.ensures, c.unfolded-format.ensures) at c.in_ok-write_cut.ensures.hands) refl c.put_piece.ensures)
+    (puts_then g.S.TextSink c.args.out.now c.write_cut.new.out c.put_piece.new.out _ (suffix ∷ []) _ c.put_piece.result (rw (c.for_text-limits.ensures, c.unfolded-format.ensures) at c.in_ok-write_cut.ensures.hands) refl c.put_piece.ensures)
