@@ -19,15 +19,15 @@ use Rattle.demangle_value.specs.Filtered.{is_run_byte, starts_run, StartsOutside
 use Rattle.rustc_demangle.specs.Rewritten.{before_after, starts_underscored_run, starts_candidate, rewritten_by, IsPlainLen}
 use Rattle.rustc_demangle.specs.ByteStream.{Unwritten, unwritten, from_start, followed_by, SplitsNoCandidate, IsPartialRun, IsPartialCandidate, FilteredPrefix, StepFiltered, StepFinished, StepFailed, BytesStopped}
 use Rattle.rustc_demangle.specs.declared.byte_before.ByteBefore.{ByteBefore}
-use Rattle.rustc_demangle.specs.declared.byte_before.ByteBefore.TheVariants.{Outside, Alphanumeric, Mark}
+use Rattle.rustc_demangle.specs.declared.byte_before.ByteBefore.TheVariants.{Outside, Inside}
 use Rattle.rustc_demangle.specs.declared.stream.fault.StreamFault.{StreamFault}
 use Rattle.rustc_demangle.specs.declared.stream.fault.StreamFault.TheVariants.{Read, NotUtf8, Write, Memory}
 use Rattle.demangle_value.proofs.Searches.{no_mark}
 use Rattle.demangle_value.proofs.RunStarts.{all_prefix, all_of_prefix, after_prefix, far, and_left, and_right}
-use Rattle.rustc_demangle.proofs.CandidateLemmas.{or_false, candidate_more, candidate_cases, candidate_of, candidate_some, candidate_prefix, run_candidate, before_after-append, rewritten_nothing, rewritten_candidate, rewritten_split, rewritten_plain, HasNoCandidate, cuts_plain, plain_of}
+use Rattle.rustc_demangle.proofs.CandidateLemmas.{or_false, candidate_more, candidate_cases, candidate_of, candidate_some, candidate_prefix, run_candidate, inside_after, before_after-append, rewritten_nothing, rewritten_candidate, rewritten_split, rewritten_plain, HasNoCandidate, cuts_plain, plain_of}
 
 -- nothing was filtered
-pub passed_none : (f : ByteBefore → List ℕ → List ℕ) (held left : Unwritten) (old : Option (List ℕ)) → held ≡ left → FilteredPrefix (rewritten_by f zero) held left old old
+pub passed_none : (f : List ℕ → List ℕ) (held left : Unwritten) (old : Option (List ℕ)) → held ≡ left → FilteredPrefix (rewritten_by f zero) held left old old
 passed_none f held left old e = record {
   prefix = [];
   whole = ap (λ (h : Unwritten). h.bytes) e;
@@ -76,7 +76,7 @@ cuts_first : (start : ByteBefore) (a b left : List ℕ) → SplitsNoCandidate st
 cuts_first start a b left cut = λ before run e some all begins.
     no_first b left (cut before run e some all (ap (starts_candidate (before_after start before)) (sym (append_assoc run b left)) ∙ candidate_more (before_after start before) (run ++ b) left begins))
 
-pub passed_trans : (f : ByteBefore → List ℕ → List ℕ) (held mid left : Unwritten) (old between new : Option (List ℕ)) → FilteredPrefix (rewritten_by f zero) held mid old between → FilteredPrefix (rewritten_by f zero) mid left between new → FilteredPrefix (rewritten_by f zero) held left old new
+pub passed_trans : (f : List ℕ → List ℕ) (held mid left : Unwritten) (old between new : Option (List ℕ)) → FilteredPrefix (rewritten_by f zero) held mid old between → FilteredPrefix (rewritten_by f zero) mid left between new → FilteredPrefix (rewritten_by f zero) held left old new
 passed_trans f held mid left old between new p q =
     let cut = subst (SplitsNoCandidate held.before p.prefix) q.whole p.uncut in
     record {
@@ -89,7 +89,7 @@ passed_trans f held mid left old between new p q =
     }
 
 -- plain text is unchanged
-pub passed_plain : (f : ByteBefore → List ℕ → List ℕ) (held left : Unwritten) (plain : List ℕ) (old new : Option (List ℕ)) → held.bytes ≡ plain ++ left.bytes → left.before ≡ before_after held.before plain
+pub passed_plain : (f : List ℕ → List ℕ) (held left : Unwritten) (plain : List ℕ) (old new : Option (List ℕ)) → held.bytes ≡ plain ++ left.bytes → left.before ≡ before_after held.before plain
     → HasNoCandidate held.before plain left.bytes → Appends old new plain → FilteredPrefix (rewritten_by f zero) held left old new
 passed_plain f held left plain old new e last none wrote = record {
   prefix = plain;
@@ -100,7 +100,7 @@ passed_plain f held left plain old new e last none wrote = record {
 }
 
 -- a prefix after which no run continues is filtered
-pub passed_prefix : (f : ByteBefore → List ℕ → List ℕ) (held left : Unwritten) (prefix : List ℕ) (old new : Option (List ℕ)) → held.bytes ≡ prefix ++ left.bytes → left.before ≡ before_after held.before prefix → StartsOutsideRun left.bytes
+pub passed_prefix : (f : List ℕ → List ℕ) (held left : Unwritten) (prefix : List ℕ) (old new : Option (List ℕ)) → held.bytes ≡ prefix ++ left.bytes → left.before ≡ before_after held.before prefix → StartsOutsideRun left.bytes
     → Appends old new (rewritten_by f zero held.before prefix) → FilteredPrefix (rewritten_by f zero) held left old new
 passed_prefix f held left prefix old new e last stop wrote = record {
   prefix = prefix;
@@ -121,12 +121,12 @@ pub partial_run_bytes : (held : Unwritten) → IsPartialCandidate held → list_
 partial_run_bytes held (inl is) = partial_all held.bytes is
 partial_run_bytes held (inr (out, run, e, is)) = ap (list_all is_run_byte) e ∙ partial_all run is
 
-pub finished_candidate : (f : ByteBefore → List ℕ → List ℕ) (held : Unwritten) → IsPartialCandidate held → starts_candidate held.before held.bytes ≡ true
-    → f held.before held.bytes ≡ rewritten_by f zero held.before held.bytes
+pub finished_candidate : (f : List ℕ → List ℕ) (held : Unwritten) → IsPartialCandidate held → starts_candidate held.before held.bytes ≡ true
+    → f held.bytes ≡ rewritten_by f zero held.before held.bytes
 finished_candidate f held is some = sym (rewritten_candidate f held.before held.bytes some (partial_run_bytes held is))
 
-not_mark : Mark ≡ Outside → ⊥
-not_mark e = cc
+not_inside : Inside ≡ Outside → ⊥
+not_inside e = cc
 
 -- a partial candidate that is none is plain text
 kept_run : (before : ByteBefore) (s : List ℕ) → IsPartialRun s → starts_candidate before s ≡ false → HasNoCandidate before s []
@@ -135,14 +135,12 @@ kept_run before s (inr (inl e)) none = subst (λ l. HasNoCandidate before l []) 
   where
     single : (before : ByteBefore) → starts_candidate before (codes "_") ≡ false
     single Outside = refl
-    single Alphanumeric = refl
-    single Mark = refl
+    single Inside = refl
 kept_run before s (inr (inr (inl e))) none = subst (λ l. HasNoCandidate before l []) (sym e) (first before, (refl, tt))
   where
     first : (before : ByteBefore) → starts_candidate before (codes "_Z") ≡ false
     first Outside = refl
-    first Alphanumeric = refl
-    first Mark = refl
+    first Inside = refl
 kept_run before s (inr (inr (inr run))) none = absurd (true≢false (sym (run_candidate before s run.0) ∙ none))
 
 kept_partial : (held : Unwritten) → IsPartialCandidate held → starts_candidate held.before held.bytes ≡ false → HasNoCandidate held.before held.bytes []
@@ -150,19 +148,19 @@ kept_partial held (inl is) none = kept_run held.before held.bytes is none
 kept_partial held (inr (out, run, e, is)) none =
     let here : starts_candidate Outside (95 ∷ run) ≡ false = subst (λ (k : ByteBefore). starts_candidate k (95 ∷ run) ≡ false) out (ap (starts_candidate held.before) (sym e) ∙ none) in
     subst (λ l. HasNoCandidate held.before l []) (sym e) (subst (λ (k : ByteBefore). HasNoCandidate k (95 ∷ run) []) (sym out)
-    (ap (starts_candidate Outside) (ap (λ l. 95 ∷ l) (append-nil run)) ∙ here, kept_run Mark run is (no_run run is here)))
+    (ap (starts_candidate Outside) (ap (λ l. 95 ∷ l) (append-nil run)) ∙ here, kept_run Inside run is (no_run run is here)))
   where
-    no_run : (run : List ℕ) → IsPartialRun run → starts_candidate Outside (95 ∷ run) ≡ false → starts_candidate Mark run ≡ false
-    no_run run is none = at (starts_candidate Mark run) refl
+    no_run : (run : List ℕ) → IsPartialRun run → starts_candidate Outside (95 ∷ run) ≡ false → starts_candidate Inside run ≡ false
+    no_run run is none = at (starts_candidate Inside run) refl
       where
-        at : (b : Bool) → starts_candidate Mark run ≡ b → starts_candidate Mark run ≡ false
-        at true e = elim (candidate_cases Mark run e) [
+        at : (b : Bool) → starts_candidate Inside run ≡ b → starts_candidate Inside run ≡ false
+        at true e = elim (candidate_cases Inside run e) [
           | inl some ↦ absurd (true≢false (sym (candidate_of Outside (95 ∷ run) (inr (refl, run, refl, some))) ∙ none))
-          | inr w ↦ absurd (not_mark w.0)
+          | inr w ↦ absurd (not_inside w.0)
         ]
         at false e = e
 
-pub finished_kept : (f : ByteBefore → List ℕ → List ℕ) (held : Unwritten) → IsPartialCandidate held → starts_candidate held.before held.bytes ≡ false
+pub finished_kept : (f : List ℕ → List ℕ) (held : Unwritten) → IsPartialCandidate held → starts_candidate held.before held.bytes ≡ false
     → held.bytes ≡ rewritten_by f zero held.before held.bytes
 finished_kept f held is none = sym (rewritten_plain f held.before held.bytes [] (kept_partial held is none))
 
@@ -175,7 +173,7 @@ moved a b available more n e =
     ∙ ap (λ l. l ++ (drop n available ++ more)) (sym e)
 
 -- used bytes that become pending
-pub passed_moved : (f : ByteBefore → List ℕ → List ℕ) (before next : ByteBefore) (a b available : List ℕ) (n : ℕ) (old : Option (List ℕ)) → next ≡ before → b ≡ a ++ take n available
+pub passed_moved : (f : List ℕ → List ℕ) (before next : ByteBefore) (a b available : List ℕ) (n : ℕ) (old : Option (List ℕ)) → next ≡ before → b ≡ a ++ take n available
     → (more : List ℕ) → FilteredPrefix (rewritten_by f zero) (followed_by (unwritten before a) (available ++ more)) (followed_by (unwritten next b) (drop n available ++ more)) old old
 passed_moved f before next a b available n old same e more =
     passed_none f _ _ old (ap (λ l. unwritten before l) (moved a b available more n e) ∙ ap (λ (k : ByteBefore). unwritten k (b ++ (drop n available ++ more))) (sym same))
@@ -197,7 +195,7 @@ more_candidate before next a s n same some all count b e =
     open_candidate next b begins every
 
 -- a pending candidate that ends in the available bytes
-pub candidate_ended : (f : ByteBefore → List ℕ → List ℕ) (before next : ByteBefore) (a b nb available : List ℕ) (n : ℕ) (old new : Option (List ℕ)) → b ≡ a ++ take n available → n ≡ prefix_len is_run_byte available → n < length available
+pub candidate_ended : (f : List ℕ → List ℕ) (before next : ByteBefore) (a b nb available : List ℕ) (n : ℕ) (old new : Option (List ℕ)) → b ≡ a ++ take n available → n ≡ prefix_len is_run_byte available → n < length available
     → nb ≡ [] → next ≡ before_after before b → Appends old new (rewritten_by f zero before b)
     → (more : List ℕ) → FilteredPrefix (rewritten_by f zero) (followed_by (unwritten before a) (available ++ more)) (followed_by (unwritten next nb) (drop n available ++ more)) old new
 candidate_ended f before next a b nb available n old new e count lt none last wrote more =
@@ -250,8 +248,7 @@ not_underscored before c s none first = ap (λ b. b || starts_underscored_run be
 
     at : (before : ByteBefore) → (before ≡ Outside → starts_run s ≡ false) → starts_underscored_run before (c ∷ s) ≡ false
     at Outside none = both (eqb c 95) (starts_run s) (none refl)
-    at Alphanumeric none = refl
-    at Mark none = refl
+    at Inside none = refl
 
 pub stopped_prefix : (before : ByteBefore) (s : List ℕ) (c : ℕ) → IsPrefix before s → StopsPrefix before s c → (more : List ℕ) → HasNoCandidate before s (c ∷ more)
 stopped_prefix before s c (inl e) stops more =
@@ -266,11 +263,11 @@ stopped_prefix before s c (inr (inr (inl p))) stops more =
     let last : last_byte s ≡ 95 = ap last_byte p.1 in
     let none : starts_run (95 ∷ c ∷ more) ≡ false = unmarked c more (stops.no_r last) (stops.no_z last) in
     subst (λ l. HasNoCandidate before l (c ∷ more)) (sym p.1)
-    (not_underscored before 95 (95 ∷ c ∷ more) (λ out. none) refl, (not_underscored Mark 95 (c ∷ more) (λ m. absurd (not_mark m)) none, tt))
+    (not_underscored before 95 (95 ∷ c ∷ more) (λ out. none) refl, (not_underscored Inside 95 (c ∷ more) (λ m. absurd (not_inside m)) none, tt))
 stopped_prefix before s c (inr (inr (inr p))) stops more =
     let none : starts_run (95 ∷ 90 ∷ c ∷ more) ≡ false = unnamed c more (stops.no_n (ap last_byte p.1)) in
     subst (λ l. HasNoCandidate before l (c ∷ more)) (sym p.1)
-    (not_underscored before 95 (95 ∷ 90 ∷ c ∷ more) (λ out. none) refl, (not_underscored Mark 95 (90 ∷ c ∷ more) (λ m. refl) none, (refl, tt)))
+    (not_underscored before 95 (95 ∷ 90 ∷ c ∷ more) (λ out. none) refl, (not_underscored Inside 95 (90 ∷ c ∷ more) (λ m. refl) none, (refl, tt)))
 
 -- it ends with `Z`, and another byte than `N` follows
 pub stops_name : (before : ByteBefore) (s : List ℕ) (c : ℕ) → IsPrefix before s → last_byte s ≡ 90 → eqb c 78 ≡ false → StopsPrefix before s c
@@ -398,7 +395,7 @@ first_byte (c ∷ s) some = refl
 -- Chunks.
 
 -- plain text up to a place, if the text after the place becomes pending
-pub text_kept : (f : ByteBefore → List ℕ → List ℕ) (before next : ByteBefore) (a available kept found nb : List ℕ) (start n : ℕ) (old new : Option (List ℕ)) → a ≡ [] → kept ≡ take n available → found ≡ drop n available
+pub text_kept : (f : List ℕ → List ℕ) (before next : ByteBefore) (a available kept found nb : List ℕ) (start n : ℕ) (old new : Option (List ℕ)) → a ≡ [] → kept ≡ take n available → found ≡ drop n available
     → nb ≡ a ++ found → next ≡ before_after before kept → start ≤ length available → IsPlainLen before (take start available) n
     → ((more : List ℕ) (k : ℕ) → k < start → starts_run (drop k available ++ more) ≡ false) → Appends old new kept
     → (more : List ℕ) → FilteredPrefix (rewritten_by f zero) (followed_by (unwritten before a) (available ++ more)) (followed_by (unwritten next nb) (drop (length available) available ++ more)) old new
@@ -412,10 +409,10 @@ text_kept f before next a available kept found nb start n old new nil front back
     wrote
 
 -- a candidate that ends in the available bytes, and the text before it
-pub text_run : (f : ByteBefore → List ℕ → List ℕ) (before mid next : ByteBefore) (a available kept found run : List ℕ) (start n len used : ℕ) (old between new : Option (List ℕ)) → a ≡ [] → kept ≡ take n available → found ≡ drop n available
-    → run ≡ take len found → len ≡ prefix_len is_run_byte found → len < length found → mid ≡ before_after before kept → next ≡ before_after mid run → used ≡ length kept + len → IsPlainLen before (take start available) n
+pub text_run : (f : List ℕ → List ℕ) (before mid next : ByteBefore) (a available kept found run : List ℕ) (start n len used : ℕ) (old between new : Option (List ℕ)) → a ≡ [] → kept ≡ take n available → found ≡ drop n available
+    → run ≡ take len found → len ≡ prefix_len is_run_byte found → len < length found → mid ≡ before_after before kept → next ≡ Inside → used ≡ length kept + len → IsPlainLen before (take start available) n
     → (start < length available) × (starts_run (drop start available) ≡ true) × ((k : ℕ) → k < start → starts_run (drop k available) ≡ false)
-    → Appends old between kept → Appends between new (f mid run)
+    → Appends old between kept → Appends between new (f run)
     → (more : List ℕ) → FilteredPrefix (rewritten_by f zero) (followed_by (unwritten before a) (available ++ more)) (followed_by (unwritten next a) (drop used available ++ more)) old new
 text_run f before mid next a available kept found run start n len used old between new nil front back is count lt middle last total plain at first second more =
     let le : start ≤ length available = omega (arith, at.0) in
@@ -436,7 +433,7 @@ text_run f before mid next a available kept found run start n len used old betwe
     passed_trans f _ (unwritten mid (found ++ more)) _ old between new one
     (passed_prefix f (unwritten mid (found ++ more)) _ run between new
     (ap (λ l. l ++ more) (sym (take-append-drop len found)) ∙ append_assoc (take len found) (drop len found) more ∙ ap (λ l. l ++ (drop len found ++ more)) (sym is) ∙ ap (λ l. run ++ l) (sym left))
-    last
+    (last ∙ sym (inside_after mid run (candidate_some mid run some).0 all))
     (subst StartsOutsideRun (sym left) stop)
     (subst (Appends between new) (sym (rewritten_candidate f mid run some all)) second))
 
@@ -460,7 +457,7 @@ found_beginning before next a available kept found nb start n nil front back pen
     (subst (λ (k : ByteBefore). IsPartialCandidate (unwritten k (drop n available))) (sym mid) (found_partial before available start n le plain is))
 
 -- one step, by the available bytes and the number of those that were used
-pub step_took : (f : ByteBefore → List ℕ → List ℕ) (a next : Unwritten) (available : List ℕ) (n : ℕ) (left rest old new : Option (List ℕ)) → n ≤ length available → length next.bytes < length a.bytes + 2 * n → IfSome left (λ xs. StartsWith xs available)
+pub step_took : (f : List ℕ → List ℕ) (a next : Unwritten) (available : List ℕ) (n : ℕ) (left rest old new : Option (List ℕ)) → n ≤ length available → length next.bytes < length a.bytes + 2 * n → IfSome left (λ xs. StartsWith xs available)
     → Consumes left rest (take n available) → ((more : List ℕ) → FilteredPrefix (rewritten_by f zero) (followed_by a (available ++ more)) (followed_by next (drop n available ++ more)) old new)
     → StepFiltered (rewritten_by f zero) a next left rest old new
 step_took f a next available n None rest old new le less prefix took passed = tt
@@ -475,25 +472,25 @@ step_took f a next available n (Some xs) (Some ys) old new le less prefix took p
     (ys, refl, subst (λ l. FilteredPrefix (rewritten_by f zero) (followed_by a l) (followed_by next ys) old new) (sym whole) (subst (λ l. FilteredPrefix (rewritten_by f zero) (followed_by a (available ++ more)) (followed_by next l) old new) (sym rest) (passed more)), progress)
 
 -- the prefix of the input that was filtered, the pending text, and the rest of the input
-abbrev pub Passing : (ByteBefore → List ℕ → List ℕ) → Option (List ℕ) → Unwritten → Option (List ℕ) → Option (List ℕ) → Option (List ℕ) → Type 0
+abbrev pub Passing : (List ℕ → List ℕ) → Option (List ℕ) → Unwritten → Option (List ℕ) → Option (List ℕ) → Option (List ℕ) → Type 0
 Passing f held pending left old new = IfSome held (λ text. (rest : List ℕ) × (left ≡ Some rest) × FilteredPrefix (rewritten_by f zero) (from_start text) (followed_by pending rest) old new)
 
-pub passing_init : (f : ByteBefore → List ℕ → List ℕ) (held : Option (List ℕ)) (pending : Unwritten) (old : Option (List ℕ)) → pending ≡ from_start [] → Passing f held pending held old old
+pub passing_init : (f : List ℕ → List ℕ) (held : Option (List ℕ)) (pending : Unwritten) (old : Option (List ℕ)) → pending ≡ from_start [] → Passing f held pending held old old
 passing_init f None pending old none = tt
 passing_init f (Some text) pending old none = (text, refl, passed_none f (from_start text) _ old (ap (λ (h : Unwritten). followed_by h text) (sym none)))
 
-pub passing_known : (f : ByteBefore → List ℕ → List ℕ) (held : Option (List ℕ)) (pending : Unwritten) (left old new : Option (List ℕ)) → Passing f held pending left old new → IfSome held (λ _. (xs : List ℕ) × (left ≡ Some xs))
+pub passing_known : (f : List ℕ → List ℕ) (held : Option (List ℕ)) (pending : Unwritten) (left old new : Option (List ℕ)) → Passing f held pending left old new → IfSome held (λ _. (xs : List ℕ) × (left ≡ Some xs))
 passing_known f None pending left old new p = tt
 passing_known f (Some text) pending left old new p = (p.0, p.1)
 
-pub passing_step : (f : ByteBefore → List ℕ → List ℕ) (held : Option (List ℕ)) (pending next : Unwritten) (left rest old mid new : Option (List ℕ)) → Passing f held pending left old mid
+pub passing_step : (f : List ℕ → List ℕ) (held : Option (List ℕ)) (pending next : Unwritten) (left rest old mid new : Option (List ℕ)) → Passing f held pending left old mid
     → StepFiltered (rewritten_by f zero) pending next left rest mid new → Passing f held next rest old new
 passing_step f None pending next left rest old mid new p took = tt
 passing_step f (Some text) pending next left rest old mid new p took =
     let q = MatchOption-at_some ⊤ (λ xs. (ys : List ℕ) × (rest ≡ Some ys) × FilteredPrefix (rewritten_by f zero) (followed_by pending xs) (followed_by next ys) mid new × (length next.bytes + 2 * length ys < length pending.bytes + 2 * length xs)) p.0 p.1 took in
     (q.0, q.1, passed_trans f (from_start text) (followed_by pending p.0) _ old mid new p.2 q.2)
 
-pub passing_end : (f : ByteBefore → List ℕ → List ℕ) (held : Option (List ℕ)) (pending next : Unwritten) (left rest old mid new : Option (List ℕ)) → Passing f held pending left old mid
+pub passing_end : (f : List ℕ → List ℕ) (held : Option (List ℕ)) (pending next : Unwritten) (left rest old mid new : Option (List ℕ)) → Passing f held pending left old mid
     → StepFinished (rewritten_by f zero) pending next left rest mid new → IfSome held (λ text. (rest ≡ Some []) × Appends old new (rewritten_by f zero Outside text))
 passing_end f None pending next left rest old mid new p ended = tt
 passing_end f (Some text) pending next left rest old mid new p ended =
@@ -506,11 +503,11 @@ passing_end f (Some text) pending next left rest old mid new p ended =
     ∙ ap (λ (k : ByteBefore). rewritten_by f zero Outside passed.prefix ++ rewritten_by f zero k pending.bytes) (sym passed.last) in
     (none.1, subst (Appends old new) (sym whole) (Appends-trans old mid new _ _ passed.wrote ended.2))
 
-stopped : (f : ByteBefore → List ℕ → List ℕ) (text : List ℕ) (pending : Unwritten) (left old mid new : Option (List ℕ)) → Passing f (Some text) pending left old mid → new ≡ mid
+stopped : (f : List ℕ → List ℕ) (text : List ℕ) (pending : Unwritten) (left old mid new : Option (List ℕ)) → Passing f (Some text) pending left old mid → new ≡ mid
     → (rest : Unwritten) × FilteredPrefix (rewritten_by f zero) (from_start text) rest old new
 stopped f text pending left old mid new p same = (followed_by pending p.0, subst (FilteredPrefix (rewritten_by f zero) (from_start text) (followed_by pending p.0) old) (sym same) p.2)
 
-pub passing_err : (fault : StreamFault) (f : ByteBefore → List ℕ → List ℕ) (held : Option (List ℕ)) (pending next : Unwritten) (left rest old mid new : Option (List ℕ)) → Passing f held pending left old mid
+pub passing_err : (fault : StreamFault) (f : List ℕ → List ℕ) (held : Option (List ℕ)) (pending next : Unwritten) (left rest old mid new : Option (List ℕ)) → Passing f held pending left old mid
     → StepFailed fault pending next left rest mid new → IfSome held (λ text. BytesStopped (rewritten_by f zero) fault (from_start text) old new)
 passing_err fault f None pending next left rest old mid new p refused = tt
 passing_err (Read e) f (Some text) pending next left rest old mid new p refused = let w = stopped f text pending left old mid new p refused.3 in (refused.0, w.0, w.1)
@@ -519,7 +516,7 @@ passing_err (Write e) f (Some text) pending next left rest old mid new p refused
 passing_err Memory f (Some text) pending next left rest old mid new p refused = stopped f text pending left old mid new p refused.2
 
 -- if there are too many steps, for the writer after the branches join
-pub passing_full : {W : Type 0} (contents : W → Option (List ℕ)) (e : Error) (f : ByteBefore → List ℕ → List ℕ) (held : Option (List ℕ)) (pending : Unwritten) (left : Option (List ℕ)) (old new next : W)
+pub passing_full : {W : Type 0} (contents : W → Option (List ℕ)) (e : Error) (f : List ℕ → List ℕ) (held : Option (List ℕ)) (pending : Unwritten) (left : Option (List ℕ)) (old new next : W)
     → Passing f held pending left (contents old) (contents new) → (error_kind e ≡ OutOfMemory → ⊥) → next ≡ new
     → IfSome held (λ text. BytesStopped (rewritten_by f zero) (Read e) (from_start text) (contents old) (contents next))
 passing_full contents e f None pending left old new next p kind same = tt

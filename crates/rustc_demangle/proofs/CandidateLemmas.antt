@@ -10,7 +10,7 @@ use Rattle.demangle_value.specs.Filtered.{is_run_byte, starts_run, StartsOutside
 use Rattle.rustc_demangle.specs.Rewritten.{before_of, before_after, starts_underscored_run, starts_candidate, rewritten_by, EndsSingle}
 use Rattle.rustc_demangle.specs.ByteStream.{SplitsNoCandidate}
 use Rattle.rustc_demangle.specs.declared.byte_before.ByteBefore.{ByteBefore}
-use Rattle.rustc_demangle.specs.declared.byte_before.ByteBefore.TheVariants.{Outside, Alphanumeric, Mark}
+use Rattle.rustc_demangle.specs.declared.byte_before.ByteBefore.TheVariants.{Outside, Inside}
 use Rattle.demangle_value.proofs.RunLemmas.{first_of_run, run_some}
 use Rattle.demangle_value.proofs.RunStarts.{begins_more, begins_prefix, all_of_prefix, prefix_of_all, no_prefix, and_left, and_right}
 
@@ -37,8 +37,7 @@ IsCandidate before s = (starts_run s ≡ true) ⊎ ((before ≡ Outside) × (t :
 underscored : (before : ByteBefore) (s : List ℕ) → starts_underscored_run before s ≡ true → (before ≡ Outside) × (t : List ℕ) × (s ≡ 95 ∷ t) × (starts_run t ≡ true)
 underscored Outside [] h = absurd (true≢false (sym h))
 underscored Outside (c ∷ s) h = (refl, s, ap (λ k. k ∷ s) (eqb-true c 95 (and_left (eqb c 95) (starts_run s) h)), and_right (eqb c 95) (starts_run s) h)
-underscored Alphanumeric s h = absurd (true≢false (sym h))
-underscored Mark s h = absurd (true≢false (sym h))
+underscored Inside s h = absurd (true≢false (sym h))
 
 pub candidate_cases : (before : ByteBefore) (s : List ℕ) → starts_candidate before s ≡ true → IsCandidate before s
 candidate_cases before s some = at (starts_run s) refl some
@@ -131,27 +130,33 @@ single_parts before text (s, e, out) =
     at [] = refl
     at (c ∷ s) = at s
 
+-- a run byte is before the text after run bytes
+pub inside_after : (before : ByteBefore) (s : List ℕ) → 0 < length s → list_all is_run_byte s ≡ true → before_after before s ≡ Inside
+inside_after before [] some all = absurd (omega (arith, some))
+inside_after before (c ∷ []) some all = ap (λ b. cond b Inside Outside) (and_left (is_run_byte c) true all)
+inside_after before (c ∷ d ∷ s) some all = inside_after (before_of c) (d ∷ s) (omega arith) (and_right (is_run_byte c) (list_all is_run_byte (d ∷ s)) all)
+
 -- Rewriting.
 
 -- one iteration, by whether a candidate starts
-abbrev pub candidate_turn : (ByteBefore → List ℕ → List ℕ) → ByteBefore → ℕ → List ℕ → Bool → List ℕ
+abbrev pub candidate_turn : (List ℕ → List ℕ) → ByteBefore → ℕ → List ℕ → Bool → List ℕ
 candidate_turn f before c s b = elim b [
-  | true ↦ f before (c ∷ take_while is_run_byte s) ++ rewritten_by f (prefix_len is_run_byte s) (before_of c) s
+  | true ↦ f (c ∷ take_while is_run_byte s) ++ rewritten_by f (prefix_len is_run_byte s) (before_of c) s
   | false ↦ c ∷ rewritten_by f zero (before_of c) s
 ]
 
 -- if no candidate starts, the byte is unchanged
-pub rewritten_other : (f : ByteBefore → List ℕ → List ℕ) (before : ByteBefore) (c : ℕ) (s : List ℕ) → starts_candidate before (c ∷ s) ≡ false
+pub rewritten_other : (f : List ℕ → List ℕ) (before : ByteBefore) (c : ℕ) (s : List ℕ) → starts_candidate before (c ∷ s) ≡ false
     → rewritten_by f zero before (c ∷ s) ≡ c ∷ rewritten_by f zero (before_of c) s
 unfolding rewritten_by
 rewritten_other f before c s none = ap (candidate_turn f before c s) none
 
-pub rewritten_nothing : (f : ByteBefore → List ℕ → List ℕ) (before : ByteBefore) (k : ℕ) → rewritten_by f k before [] ≡ []
+pub rewritten_nothing : (f : List ℕ → List ℕ) (before : ByteBefore) (k : ℕ) → rewritten_by f k before [] ≡ []
 unfolding rewritten_by
 rewritten_nothing f before k = refl
 
 -- skipped bytes are omitted
-pub rewritten_skip : (f : ByteBefore → List ℕ → List ℕ) (before : ByteBefore) (n : ℕ) (s : List ℕ) → rewritten_by f n before s ≡ rewritten_by f zero (before_after before (take n s)) (drop n s)
+pub rewritten_skip : (f : List ℕ → List ℕ) (before : ByteBefore) (n : ℕ) (s : List ℕ) → rewritten_by f n before s ≡ rewritten_by f zero (before_after before (take n s)) (drop n s)
 unfolding rewritten_by
 rewritten_skip f before zero [] = refl
 rewritten_skip f before (suc n) [] = refl
@@ -159,20 +164,20 @@ rewritten_skip f before zero (c ∷ s) = refl
 rewritten_skip f before (suc n) (c ∷ s) = rewritten_skip f (before_of c) n s
 
 -- a candidate that is the whole text is replaced
-pub rewritten_candidate : (f : ByteBefore → List ℕ → List ℕ) (before : ByteBefore) (run : List ℕ) → starts_candidate before run ≡ true → list_all is_run_byte run ≡ true
-    → rewritten_by f zero before run ≡ f before run
+pub rewritten_candidate : (f : List ℕ → List ℕ) (before : ByteBefore) (run : List ℕ) → starts_candidate before run ≡ true → list_all is_run_byte run ≡ true
+    → rewritten_by f zero before run ≡ f run
 unfolding rewritten_by
 rewritten_candidate f before [] some all = absurd (omega (arith, (candidate_some before [] some).0))
 rewritten_candidate f before (c ∷ s) some all =
     let n = prefix_len is_run_byte s in
     let full : n ≡ length s = prefix_of_all s (and_right (is_run_byte c) (list_all is_run_byte s) all) in
     ap (candidate_turn f before c s) some
-    ∙ ap (λ l. f before (c ∷ take n s) ++ l) (rewritten_skip f (before_of c) n s ∙ ap (rewritten_by f zero (before_after (before_of c) (take n s))) (drop_all n s (omega (arith, full))) ∙ rewritten_nothing f (before_after (before_of c) (take n s)) zero)
-    ∙ append-nil (f before (c ∷ take n s))
-    ∙ ap (λ l. f before (c ∷ l)) (take_all n s (omega (arith, full)))
+    ∙ ap (λ l. f (c ∷ take n s) ++ l) (rewritten_skip f (before_of c) n s ∙ ap (rewritten_by f zero (before_after (before_of c) (take n s))) (drop_all n s (omega (arith, full))) ∙ rewritten_nothing f (before_after (before_of c) (take n s)) zero)
+    ∙ append-nil (f (c ∷ take n s))
+    ∙ ap (λ l. f (c ∷ l)) (take_all n s (omega (arith, full)))
 
 -- what is before a text does not matter if it starts outside of runs
-pub rewritten_outside : (f : ByteBefore → List ℕ → List ℕ) (a b : ByteBefore) (s : List ℕ) → StartsOutsideRun s → rewritten_by f zero a s ≡ rewritten_by f zero b s
+pub rewritten_outside : (f : List ℕ → List ℕ) (a b : ByteBefore) (s : List ℕ) → StartsOutsideRun s → rewritten_by f zero a s ≡ rewritten_by f zero b s
 rewritten_outside f a b [] stop = rewritten_nothing f a zero ∙ sym (rewritten_nothing f b zero)
 rewritten_outside f a b (c ∷ s) stop = rewritten_other f a c s (outside_none a (c ∷ s) stop) ∙ sym (rewritten_other f b c s (outside_none b (c ∷ s) stop))
 
@@ -206,7 +211,7 @@ tail : (before : ByteBefore) (c : ℕ) (a b : List ℕ) → SplitsNoCandidate be
 tail before c a b cut = λ plain run e some all begins. cut (c ∷ plain) run (ap (λ l. c ∷ l) e) some all begins
 
 -- a text that is rewritten in two parts, of which the first splits no candidate
-split_from : (f : ByteBefore → List ℕ → List ℕ) (before : ByteBefore) (a b : List ℕ) (k : ℕ) → k ≤ length a → SplitsNoCandidate before a b
+split_from : (f : List ℕ → List ℕ) (before : ByteBefore) (a b : List ℕ) (k : ℕ) → k ≤ length a → SplitsNoCandidate before a b
     → rewritten_by f k before (a ++ b) ≡ rewritten_by f k before a ++ rewritten_by f zero (before_after before a) b
 unfolding rewritten_by
 split_from f before [] b zero le cut = refl
@@ -223,17 +228,17 @@ split_from f before (c ∷ a) b zero le cut = at (λ k le. split_from f (before_
         let within : m ≤ length a = prefix_len-le-length is_run_byte a in
         let word : take (prefix_len is_run_byte (a ++ b)) (a ++ b) ≡ take m a = ap (λ n. take n (a ++ b)) len ∙ take-append-le m a b within in
         ap (candidate_turn f before c (a ++ b)) e
-        ∙ ap (λ l. f before (c ∷ l) ++ rewritten_by f (prefix_len is_run_byte (a ++ b)) (before_of c) (a ++ b)) word
-        ∙ ap (λ n. f before (c ∷ take m a) ++ rewritten_by f n (before_of c) (a ++ b)) len
-        ∙ ap (λ l. f before (c ∷ take m a) ++ l) (ih m within)
-        ∙ sym (append_assoc (f before (c ∷ take m a)) (rewritten_by f m (before_of c) a) (rewritten_by f zero (before_after (before_of c) a) b))
+        ∙ ap (λ l. f (c ∷ l) ++ rewritten_by f (prefix_len is_run_byte (a ++ b)) (before_of c) (a ++ b)) word
+        ∙ ap (λ n. f (c ∷ take m a) ++ rewritten_by f n (before_of c) (a ++ b)) len
+        ∙ ap (λ l. f (c ∷ take m a) ++ l) (ih m within)
+        ∙ sym (append_assoc (f (c ∷ take m a)) (rewritten_by f m (before_of c) a) (rewritten_by f zero (before_after (before_of c) a) b))
         ∙ sym (ap (λ t. candidate_turn f before c a t ++ rewritten_by f zero (before_after (before_of c) a) b) (same_begin before c a b cut e))
     at ih false e =
         ap (candidate_turn f before c (a ++ b)) e
         ∙ ap (λ l. c ∷ l) (ih zero (omega arith))
         ∙ sym (ap (λ t. candidate_turn f before c a t ++ rewritten_by f zero (before_after (before_of c) a) b) (candidate_less before (c ∷ a) b e))
 
-pub rewritten_split : (f : ByteBefore → List ℕ → List ℕ) (before : ByteBefore) (a b : List ℕ) → SplitsNoCandidate before a b
+pub rewritten_split : (f : List ℕ → List ℕ) (before : ByteBefore) (a b : List ℕ) → SplitsNoCandidate before a b
     → rewritten_by f zero before (a ++ b) ≡ rewritten_by f zero before a ++ rewritten_by f zero (before_after before a) b
 rewritten_split f before a b cut = split_from f before a b zero (omega arith) cut
 
@@ -245,7 +250,7 @@ HasNoCandidate before [] left = Unit {0}
 HasNoCandidate before (c ∷ s) left = (starts_candidate before (c ∷ (s ++ left)) ≡ false) × HasNoCandidate (before_of c) s left
 
 -- it is unchanged
-pub rewritten_plain : (f : ByteBefore → List ℕ → List ℕ) (before : ByteBefore) (s left : List ℕ) → HasNoCandidate before s left → rewritten_by f zero before s ≡ s
+pub rewritten_plain : (f : List ℕ → List ℕ) (before : ByteBefore) (s left : List ℕ) → HasNoCandidate before s left → rewritten_by f zero before s ≡ s
 rewritten_plain f before [] left none = rewritten_nothing f before zero
 rewritten_plain f before (c ∷ s) left none =
     rewritten_other f before c s (candidate_less before (c ∷ s) left none.0) ∙ ap (λ l. c ∷ l) (rewritten_plain f (before_of c) s left none.1)
@@ -283,5 +288,4 @@ plain_of before (c ∷ s) left none last = (
         → (EndsSingle b (c ∷ s) → starts_run left ≡ false) → starts_underscored_run b (c ∷ (s ++ left)) ≡ false
     at Outside [] none last = marked (eqb c 95) refl (λ e. last ([], ap (λ k. k ∷ []) e, refl))
     at Outside (d ∷ s) none last = no_run (eqb c 95) (starts_run (d ∷ (s ++ left))) (none 1 (omega arith))
-    at Alphanumeric s none last = refl
-    at Mark s none last = refl
+    at Inside s none last = refl

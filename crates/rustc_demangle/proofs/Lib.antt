@@ -1,3 +1,4 @@
+pub mod BufferLaws
 pub mod ByteStreamLemmas
 pub mod CandidateLemmas
 pub mod Groups
@@ -10,3 +11,4 @@ pub mod TextRows
 pub mod MemoLemmas
 pub mod LinearLooks
 pub mod OutputLaws
+pub mod PathTags

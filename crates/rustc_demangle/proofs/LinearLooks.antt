@@ -1,17 +1,26 @@
 -- Looks with a linear limit of the bytes that are read again.
 use Rattle.std.specs.Prelude.{[]}
+use Rattle.std.specs.Option.{option_map_or}
 use Rattle.std.proofs.Common.{◌≡◌, ℕ, ◌+◌, ◌*◌, ◌≤◌, ◌<◌, List, length, take, drop, length-append, Option, Some, None, IfSome, arith, refl, ap}
 use Rattle.std.proofs.lemmas.List.{length-take}
 use Rattle.std.proofs.KnownBytes.{starts_with_rest}
 use Rattle.std.specs.Io.{StartsWith}
 use Rattle.std.specs.Io.KnownBytes.{Consumes}
 use Rattle.demangle_symbol.specs.declared.cursor.looks.RunLooks.{RunLooks}
-use Rattle.rustc_demangle.specs.ByteStream.{Unwritten, from_start, IsWriting, ChunkFailed}
-use Rattle.rustc_demangle.specs.LinearLooks.{LooksPaid, LooksLinear, NoLooksUnread, StepPaid}
+use Rattle.rustc_demangle.specs.ByteStream.{Unwritten, from_start, IsWriting}
+use Rattle.rustc_demangle.specs.LinearLooks.{LooksGrow, LooksPaid, LooksLinear, NoLooksUnread, StepPaid}
 use Rattle.demangle_value.specs.LinearPrinting.{PrintsLinear}
 use Rattle.demangle_value.specs.declared.format.Format.{Format}
 use Rattle.rustc_demangle.specs.declared.stream.fault.StreamFault.{StreamFault}
 use Rattle.rustc_demangle.specs.declared.stream.fault.StreamFault.TheVariants.{Read, NotUtf8, Write, Memory}
+
+-- No count falls.
+
+pub grow_none : (looks : RunLooks) → LooksGrow looks looks
+grow_none looks = (omega arith, omega arith)
+
+pub grow_more : (first mid new : RunLooks) → LooksGrow first mid → LooksGrow mid new → LooksGrow first new
+grow_more first mid new p q = (omega (arith, p.0, q.0), omega (arith, p.1, q.1))
 
 -- Filtering in parts.
 
@@ -51,6 +60,19 @@ pub step_lost : (format : Format) (a available : List ℕ) (left : Option (List 
 step_lost format a available None old new front p = tt
 step_lost format a available (Some xs) old new front p = λ e. omega (arith, p e, ap length (starts_with_rest xs available front), length-append available (drop (length available) xs))
 
+-- the last step, which only filters what is pending
+pub end_linear : (format : Format) (n : ℕ) (left : Option (List ℕ)) (old new : RunLooks) → LooksLinear format n old new → IfSome left (λ xs. LooksLinear format (n + length xs) old new)
+end_linear format n None old new p = tt
+end_linear format n (Some xs) old new p = λ e. omega (arith, p e)
+
+-- the same of what is left
+pub end_paid : (format : Format) (n : ℕ) (next : Unwritten) (left rest : Option (List ℕ)) (old new : RunLooks) → IfSome left (λ xs. (xs ≡ []) × (rest ≡ Some [])) → next ≡ from_start []
+    → LooksLinear format n old new → IfSome left (λ xs. IfSome rest (λ ys. LooksPaid format (n + length xs) (length next.bytes + length ys) old new))
+end_paid format n next None rest old new ended none p = tt
+end_paid format n next (Some xs) None old new ended none p = tt
+end_paid format n next (Some xs) (Some ys) old new ended none p =
+    λ e. omega (arith, p e, ap (λ (o : Option (List ℕ)). option_map_or length o 0) ended.1, ap (λ (u : Unwritten). length u.bytes) none)
+
 -- if the contents of the whole input are known, so are those that are left
 abbrev pub BothKnown : (held left : Option (List ℕ)) → Type 0
 BothKnown held left = IfSome held (λ _. (xs : List ℕ) × (left ≡ Some xs))
@@ -83,18 +105,12 @@ paid_stop format b (Some xs) (Some ys) first mid both p = λ e. omega (arith, p 
 
 pub no_looks : (fault : StreamFault) (looks : RunLooks) → NoLooksUnread fault looks looks
 no_looks (Read e) looks = refl
-no_looks NotUtf8 looks = tt
+no_looks NotUtf8 looks = refl
 no_looks (Write e) looks = tt
-no_looks Memory looks = tt
+no_looks Memory looks = refl
 
 pub writing_unread : (fault : StreamFault) (old new : RunLooks) → IsWriting fault → NoLooksUnread fault old new
 writing_unread (Read e) old new is = absurd is
-writing_unread NotUtf8 old new is = tt
+writing_unread NotUtf8 old new is = absurd is
 writing_unread (Write e) old new is = tt
-writing_unread Memory old new is = tt
-
-pub chunk_unread : (fault : StreamFault) (pending next : Unwritten) (before after : Option (List ℕ)) (old new : RunLooks) → ChunkFailed fault pending next before after → NoLooksUnread fault old new
-chunk_unread (Read e) pending next before after old new failed = absurd failed
-chunk_unread NotUtf8 pending next before after old new failed = tt
-chunk_unread (Write e) pending next before after old new failed = tt
-chunk_unread Memory pending next before after old new failed = tt
+writing_unread Memory old new is = absurd is

@@ -1,16 +1,16 @@
 -- A text that is filtered with a linear limit has at most 1,000 bytes for each byte of the input.
-use Rattle.std.proofs.Common.{◌≡◌, ℕ, zero, suc, ◌+◌, ◌-◌, ◌*◌, ◌≤◌, ◌<◌, ◌⊎◌, inl, inr, Bool, true, false, List, [], ◌∷◌, length, drop, Option, None, Some, refl, sym, ap, subst, ◌∙◌, arith, length-append}
+use Rattle.std.proofs.Common.{◌≡◌, ℕ, zero, suc, ◌+◌, ◌-◌, ◌*◌, ◌≤◌, ◌<◌, ◌⊎◌, inl, inr, Bool, true, false, cond, List, [], ◌∷◌, length, drop, Option, None, Some, refl, sym, ap, subst, ◌∙◌, arith, length-append}
 use Rattle.std.specs.Option.{option_map_or}
 use Rattle.std.specs.List.{concat, prefix_len, take_while}
 use Rattle.std.proofs.lemmas.List.{take-append-drop}
 use Rattle.std.proofs.Math.Nat.{min-le_right}
 use Rattle.demangle_value.specs.Filtered.{is_run_byte, replacement_in}
 use Rattle.demangle_value.specs.Limits.{most_bytes, bytes_within}
-use Rattle.rustc_demangle.specs.Rewritten.{before_of, starts_candidate, replacement_after, rewritten_by, rewritten_in}
+use Rattle.rustc_demangle.specs.Rewritten.{before_of, starts_candidate, stays, replacement_of, rewritten_by, rewritten_in}
 use Rattle.demangle_value.specs.Stripped.{stripped}
 use Rattle.demangle_value.specs.Symbols.{form_in, limit_in, handed_in, pieces_in}
 use Rattle.rustc_demangle.specs.declared.byte_before.ByteBefore.{ByteBefore}
-use Rattle.rustc_demangle.specs.declared.byte_before.ByteBefore.TheVariants.{Outside, Alphanumeric, Mark}
+use Rattle.rustc_demangle.specs.declared.byte_before.ByteBefore.TheVariants.{Outside}
 use Rattle.demangle_value.specs.declared.format.Format.{Format}
 use Rattle.demangle_value.specs.declared.format.SizeLimit.{SizeLimit}
 use Rattle.demangle_value.specs.declared.format.SizeLimit.TheVariants as size
@@ -43,27 +43,29 @@ linear_replacement format run e some = at (pieces_in (form_in format (stripped r
     at (Some read) is =
         omega (arith, some, length_handed_in (stripped run) format (symbol-pieces (form_in format (stripped run)) (stripped run) read is), limit_at format (stripped run) e, stripped-shorter run)
 
-linear_after : (format : Format) (before : ByteBefore) (run : List ℕ) → format.limit ≡ size.Linear → 0 < length run → length (replacement_after format before run) ≤ 1000 * length run
-linear_after format Outside run e some = linear_replacement format run e some
-linear_after format Alphanumeric run e some = omega arith
-linear_after format Mark run e some = linear_replacement format run e some
+linear_candidate : (format : Format) (run : List ℕ) → format.limit ≡ size.Linear → 0 < length run → length (replacement_of format run) ≤ 1000 * length run
+linear_candidate format run e some = at (stays run)
+  where
+    at : (b : Bool) → length (cond b run (replacement_in format run)) ≤ 1000 * length run
+    at true = omega arith
+    at false = linear_replacement format run e some
 
 linear_from : (format : Format) (skip : ℕ) (before : ByteBefore) (s : List ℕ) → format.limit ≡ size.Linear
-    → length (rewritten_by (replacement_after format) skip before s) ≤ 1000 * length (drop skip s)
+    → length (rewritten_by (replacement_of format) skip before s) ≤ 1000 * length (drop skip s)
 unfolding rewritten_by
 linear_from format zero before [] e = omega arith
 linear_from format (suc skip) before [] e = omega arith
 linear_from format (suc skip) before (c ∷ s) e = linear_from format skip (before_of c) s e
 linear_from format zero before (c ∷ s) e = elim (cases (starts_candidate before (c ∷ s))) [
   | inl some ↦
-      let f = replacement_after format in
+      let f = replacement_of format in
       let run = c ∷ take_while is_run_byte s in
       let n = prefix_len is_run_byte s in
       let whole : length (c ∷ s) ≡ length run + length (drop n s) = ap (λ l. length (c ∷ l)) (sym (take-append-drop n s)) ∙ length-append run (drop n s) in
       subst (λ b. length (candidate_turn f before c s b) ≤ 1000 * length (c ∷ s)) (sym some)
-      (omega (arith, length-append (f before run) (rewritten_by f n (before_of c) s), whole, linear_after format before run e (omega arith), linear_from format n (before_of c) s e))
+      (omega (arith, length-append (f run) (rewritten_by f n (before_of c) s), whole, linear_candidate format run e (omega arith), linear_from format n (before_of c) s e))
   | inr none ↦
-      let f = replacement_after format in
+      let f = replacement_of format in
       subst (λ b. length (candidate_turn f before c s b) ≤ 1000 * length (c ∷ s)) (sym none) (omega (arith, linear_from format zero (before_of c) s e))
 ]
 

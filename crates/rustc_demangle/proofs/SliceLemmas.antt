@@ -1,5 +1,5 @@
 -- Bytes that are written to memory in sequence.
-use Rattle.std.proofs.Common.{◌≡◌, ℕ, zero, ◌<◌, ◌≤◌, List, [], ◌∷◌, ◌++◌, length, take, drop, Result, Ok, Err, IsOk, IsErr, OnOk, OnErr, true, false, refl, sym, ap, subst, ◌∙◌, arith, append_assoc, append-nil}
+use Rattle.std.proofs.Common.{◌≡◌, ℕ, zero, ◌<◌, ◌≤◌, List, [], ◌∷◌, ◌++◌, length, take, drop, cond, Result, Ok, Err, IsOk, IsErr, OnOk, OnErr, true, false, refl, sym, ap, subst, ◌∙◌, arith, append_assoc, append-nil}
 use Rattle.std.specs.List.{concat, prefix_len, list_all}
 use Rattle.std.proofs.lemmas.Bool.{false≢true}
 use Rattle.std.proofs.lemmas.List.{take-append-drop}
@@ -15,12 +15,11 @@ use Rattle.demangle_sink.specs.Writes.{Writes}
 use Rattle.demangle_sink.proofs.PutsPiecesLemmas.{puts_put, puts_then, puts_stop}
 use Rattle.demangle_sink.proofs.Writing.{puts_writes}
 use Rattle.demangle_value.specs.Filtered.{is_run_byte, replacement_in, starts_run, StartsOutsideRun}
-use Rattle.rustc_demangle.specs.Rewritten.{before_after, starts_candidate, replacement_after, rewritten_by, IsPlainLen}
+use Rattle.rustc_demangle.specs.Rewritten.{before_after, starts_candidate, stays, replacement_of, rewritten_by, IsPlainLen}
 use Rattle.rustc_demangle.specs.TextPieces.{run_pieces}
 use Rattle.rustc_demangle.specs.PutsText.{PutsText}
 use Rattle.demangle_value.specs.declared.format.Format.{Format}
-use Rattle.rustc_demangle.specs.declared.byte_before.ByteBefore.{ByteBefore}
-use Rattle.rustc_demangle.specs.declared.byte_before.ByteBefore.TheVariants.{Outside, Alphanumeric, Mark}
+use Rattle.rustc_demangle.specs.declared.byte_before.ByteBefore.TheVariants.{Outside}
 use Rattle.demangle_value.proofs.RunStarts.{all_prefix, run_stops, far}
 use Rattle.rustc_demangle.proofs.CandidateLemmas.{candidate_prefix, rewritten_candidate, rewritten_split, rewritten_plain, rewritten_outside, HasNoCandidate, cuts_plain, plain_of}
 use Rattle.rustc_demangle.proofs.ByteStreamLemmas.{found_plain, found_candidate}
@@ -43,17 +42,15 @@ pub pieces_put : {S : Type 0} (sink : Ghosts S) (format : Format) (old : S) (run
     → PutsText sink old (replacement_in format run) result new
 pieces_put sink format old run result new p = (run_pieces format run, concat-run format run, p)
 
--- the replacement of a run is that of a candidate, unless it is after a letter or digit
-pub candidate_puts : {S : Type 0} (sink : Ghosts S) (format : Format) (before : ByteBefore) (old : S) (run : List ℕ) (result : Result (Unit {0}) SinkRefused) (new : S) → (before ≡ Alphanumeric → ⊥)
-    → PutsText sink old (replacement_in format run) result new → PutsText sink old (replacement_after format before run) result new
-candidate_puts sink format Outside old run result new not p = p
-candidate_puts sink format Alphanumeric old run result new not p = absurd (not refl)
-candidate_puts sink format Mark old run result new not p = p
+-- the replacement of a run is that of a candidate, unless it begins with `_RC`
+pub candidate_puts : {S : Type 0} (sink : Ghosts S) (format : Format) (old : S) (run : List ℕ) (result : Result (Unit {0}) SinkRefused) (new : S) → stays run ≡ false
+    → PutsText sink old (replacement_in format run) result new → PutsText sink old (replacement_of format run) result new
+candidate_puts sink format old run result new not p = subst (λ l. PutsText sink old l result new) (sym (ap (λ b. cond b run (replacement_in format run)) not)) p
 
--- after a letter or digit it is put as it is
-pub kept_puts : {S : Type 0} (sink : Ghosts S) (format : Format) (before : ByteBefore) (old : S) (run : List ℕ) (result : Result (Unit {0}) SinkRefused) (new : S) → before ≡ Alphanumeric
-    → PutsPieces sink old (run ∷ []) result new → PutsText sink old (replacement_after format before run) result new
-kept_puts sink format before old run result new same p = (run ∷ [], append-nil run ∙ sym (ap (λ (b : ByteBefore). replacement_after format b run) same), p)
+-- a candidate that is its own replacement is put as it is
+pub kept_puts : {S : Type 0} (sink : Ghosts S) (format : Format) (old : S) (run : List ℕ) (result : Result (Unit {0}) SinkRefused) (new : S) → replacement_of format run ≡ run
+    → PutsPieces sink old (run ∷ []) result new → PutsText sink old (replacement_of format run) result new
+kept_puts sink format old run result new is p = (run ∷ [], append-nil run ∙ sym is, p)
 
 -- a run that was found, and the text before it
 abbrev pub FoundCandidate : List ℕ → List ℕ → List ℕ → List ℕ → List ℕ → ℕ → ℕ → ℕ → Type 0
@@ -62,8 +59,8 @@ FoundCandidate rest kept found run following start n m =
     × IsPlainLen Outside (take start rest) n × (kept ≡ take n rest) × (found ≡ drop n rest) × (m ≡ prefix_len is_run_byte found) × (run ≡ take m found) × (following ≡ drop m found)
 
 -- the text before it, its replacement, and the rest
-pub rewritten_found : (f : ByteBefore → List ℕ → List ℕ) (rest kept found run following : List ℕ) (start n m : ℕ) → FoundCandidate rest kept found run following start n m
-    → rewritten_by f zero Outside rest ≡ kept ++ (f (before_after Outside kept) run ++ rewritten_by f zero Outside following)
+pub rewritten_found : (f : List ℕ → List ℕ) (rest kept found run following : List ℕ) (start n m : ℕ) → FoundCandidate rest kept found run following start n m
+    → rewritten_by f zero Outside rest ≡ kept ++ (f run ++ rewritten_by f zero Outside following)
 rewritten_found f rest kept found run following start n m (at, plain, front, back, count, is, after) =
     let le : start ≤ length rest = omega (arith, at.0) in
     let before = before_after Outside kept in
@@ -82,15 +79,15 @@ rewritten_found f rest kept found run following start n m (at, plain, front, bac
     ∙ ap (λ l. l ++ rewritten_by f zero before found) (rewritten_plain f Outside kept found none)
     ∙ ap (λ l. kept ++ l) (ap (rewritten_by f zero before) parts ∙ rewritten_split f before run following (λ p c e l a b. stop)
     ∙ ap (λ l. l ++ rewritten_by f zero (before_after before run) following) (rewritten_candidate f before run some all)
-    ∙ ap (λ l. f before run ++ l) (rewritten_outside f (before_after before run) Outside following stop))
+    ∙ ap (λ l. f run ++ l) (rewritten_outside f (before_after before run) Outside following stop))
 
 -- a text in which no run starts is unchanged
-pub rewritten_all : (f : ByteBefore → List ℕ → List ℕ) (rest : List ℕ) → ((k : ℕ) → k < length rest → starts_run (drop k rest) ≡ false) → rewritten_by f zero Outside rest ≡ rest
+pub rewritten_all : (f : List ℕ → List ℕ) (rest : List ℕ) → ((k : ℕ) → k < length rest → starts_run (drop k rest) ≡ false) → rewritten_by f zero Outside rest ≡ rest
 rewritten_all f rest none =
     rewritten_plain f Outside rest [] (plain_of Outside rest [] (λ k lt. ap (λ l. starts_run (drop k l)) (append-nil rest) ∙ none k lt) (λ e. refl))
 
 -- the pieces of a text that were put, and the rest of the text
-abbrev pub Rewriting : {S : Type 0} → Ghosts S → (ByteBefore → List ℕ → List ℕ) → List ℕ → S → S → List ℕ → Type 0
+abbrev pub Rewriting : {S : Type 0} → Ghosts S → (List ℕ → List ℕ) → List ℕ → S → S → List ℕ → Type 0
 Rewriting sink f text old new rest = (done : List (List ℕ)) × PutsPieces sink old done (Ok tt) new × (rewritten_by f zero Outside text ≡ concat done ++ rewritten_by f zero Outside rest)
 
 puts_ok : {S : Type 0} (sink : Ghosts S) (old new : S) (list : List (List ℕ)) (r : Result (Unit {0}) SinkRefused) → PutsPieces sink old list r new → IsOk r → PutsPieces sink old list (Ok tt) new
@@ -98,53 +95,53 @@ puts_ok sink old new list (Ok u) p ok = record { all = λ _. p.all refl; refused
 puts_ok sink old new list (Err e) p ok = absurd (false≢true ok)
 
 -- the text before the run and the replacement of the candidate were put
-pub rewriting_step : {S : Type 0} (sink : Ghosts S) (f : ByteBefore → List ℕ → List ℕ) (text rest kept found run following : List ℕ) (start n m : ℕ) (before : ByteBefore) (old new mid end : S) (r r' : Result (Unit {0}) SinkRefused)
-    → Rewriting sink f text old new rest → FoundCandidate rest kept found run following start n m → before ≡ before_after Outside kept
-    → PutsPieces sink new (kept ∷ []) r mid → IsOk r → PutsText sink mid (f before run) r' end → IsOk r' → Rewriting sink f text old end following
-rewriting_step sink f text rest kept found run following start n m before old new mid end r r' p w same first ok second ok' = (
+pub rewriting_step : {S : Type 0} (sink : Ghosts S) (f : List ℕ → List ℕ) (text rest kept found run following : List ℕ) (start n m : ℕ) (old new mid end : S) (r r' : Result (Unit {0}) SinkRefused)
+    → Rewriting sink f text old new rest → FoundCandidate rest kept found run following start n m
+    → PutsPieces sink new (kept ∷ []) r mid → IsOk r → PutsText sink mid (f run) r' end → IsOk r' → Rewriting sink f text old end following
+rewriting_step sink f text rest kept found run following start n m old new mid end r r' p w first ok second ok' = (
   p.0 ++ kept ∷ second.0,
   puts_then sink old new end p.0 (kept ∷ second.0) (Ok tt) (Ok tt) p.1 refl
       (puts_then sink new mid end (kept ∷ []) second.0 r (Ok tt) first ok (puts_ok sink mid end second.0 r' second.2 ok')),
   p.2 ∙ ap (λ l. concat p.0 ++ l) (rewritten_found f rest kept found run following start n m w
-      ∙ ap (λ l. kept ++ (l ++ rewritten_by f zero Outside following)) (sym (second.1 ∙ ap (λ (b : ByteBefore). f b run) same))
+      ∙ ap (λ l. kept ++ (l ++ rewritten_by f zero Outside following)) (sym second.1)
       ∙ sym (append_assoc kept (concat second.0) (rewritten_by f zero Outside following)))
       ∙ sym (append_assoc (concat p.0) (kept ++ concat second.0) (rewritten_by f zero Outside following))
       ∙ ap (λ l. l ++ rewritten_by f zero Outside following) (sym (concat-append p.0 (kept ∷ second.0))),
 )
 
 -- pieces that join to the rest of the text, after those that were put
-whole : {S : Type 0} (sink : Ghosts S) (f : ByteBefore → List ℕ → List ℕ) (text rest : List ℕ) (old new : S) (p : Rewriting sink f text old new rest) (ps : List (List ℕ))
+whole : {S : Type 0} (sink : Ghosts S) (f : List ℕ → List ℕ) (text rest : List ℕ) (old new : S) (p : Rewriting sink f text old new rest) (ps : List (List ℕ))
     → concat ps ≡ rewritten_by f zero Outside rest → concat (p.0 ++ ps) ≡ rewritten_by f zero Outside text
 whole sink f text rest old new p ps e = concat-append p.0 ps ∙ ap (λ l. concat p.0 ++ l) e ∙ sym p.2
 
 -- the text before the run was rejected
-pub rewriting_kept : {S : Type 0} (sink : Ghosts S) (f : ByteBefore → List ℕ → List ℕ) (text rest kept found run following : List ℕ) (start n m : ℕ) (old new end : S) (r result : Result (Unit {0}) SinkRefused)
+pub rewriting_kept : {S : Type 0} (sink : Ghosts S) (f : List ℕ → List ℕ) (text rest kept found run following : List ℕ) (start n m : ℕ) (old new end : S) (r result : Result (Unit {0}) SinkRefused)
     → Rewriting sink f text old new rest → FoundCandidate rest kept found run following start n m
     → PutsPieces sink new (kept ∷ []) r end → IsErr r → IsErr result → PutsText sink old (rewritten_by f zero Outside text) result end
 rewriting_kept sink f text rest kept found run following start n m old new end r result p w first err err' =
-    let later : List (List ℕ) = (f (before_after Outside kept) run ++ rewritten_by f zero Outside following) ∷ [] in (
+    let later : List (List ℕ) = (f run ++ rewritten_by f zero Outside following) ∷ [] in (
       p.0 ++ kept ∷ later,
       whole sink f text rest old new p (kept ∷ later) (ap (λ l. kept ++ l) (append-nil _) ∙ sym (rewritten_found f rest kept found run following start n m w)),
       puts_then sink old new end p.0 (kept ∷ later) (Ok tt) result p.1 refl (puts_stop sink new end (kept ∷ []) later r result first err err'),
     )
 
 -- the replacement of the candidate was rejected
-pub rewriting_run : {S : Type 0} (sink : Ghosts S) (f : ByteBefore → List ℕ → List ℕ) (text rest kept found run following : List ℕ) (start n m : ℕ) (before : ByteBefore) (old new mid end : S) (r r' result : Result (Unit {0}) SinkRefused)
-    → Rewriting sink f text old new rest → FoundCandidate rest kept found run following start n m → before ≡ before_after Outside kept
-    → PutsPieces sink new (kept ∷ []) r mid → IsOk r → PutsText sink mid (f before run) r' end → IsErr r' → IsErr result
+pub rewriting_run : {S : Type 0} (sink : Ghosts S) (f : List ℕ → List ℕ) (text rest kept found run following : List ℕ) (start n m : ℕ) (old new mid end : S) (r r' result : Result (Unit {0}) SinkRefused)
+    → Rewriting sink f text old new rest → FoundCandidate rest kept found run following start n m
+    → PutsPieces sink new (kept ∷ []) r mid → IsOk r → PutsText sink mid (f run) r' end → IsErr r' → IsErr result
     → PutsText sink old (rewritten_by f zero Outside text) result end
-rewriting_run sink f text rest kept found run following start n m before old new mid end r r' result p w same first ok second err err' =
+rewriting_run sink f text rest kept found run following start n m old new mid end r r' result p w first ok second err err' =
     let later : List (List ℕ) = rewritten_by f zero Outside following ∷ [] in (
       p.0 ++ kept ∷ (second.0 ++ later),
       whole sink f text rest old new p (kept ∷ (second.0 ++ later))
-          (ap (λ l. kept ++ l) (concat-append second.0 later ∙ ap (λ l. concat second.0 ++ l) (append-nil _) ∙ ap (λ l. l ++ rewritten_by f zero Outside following) (second.1 ∙ ap (λ (b : ByteBefore). f b run) same))
+          (ap (λ l. kept ++ l) (concat-append second.0 later ∙ ap (λ l. concat second.0 ++ l) (append-nil _) ∙ ap (λ l. l ++ rewritten_by f zero Outside following) second.1)
           ∙ sym (rewritten_found f rest kept found run following start n m w)),
       puts_then sink old new end p.0 (kept ∷ (second.0 ++ later)) (Ok tt) result p.1 refl
           (puts_then sink new mid end (kept ∷ []) (second.0 ++ later) r result first ok (puts_stop sink mid end second.0 later r' result second.2 err err')),
     )
 
 -- the rest, if no run starts in it
-pub rewriting_end : {S : Type 0} (sink : Ghosts S) (f : ByteBefore → List ℕ → List ℕ) (text rest : List ℕ) (old new end : S) (result : Result (Unit {0}) SinkRefused)
+pub rewriting_end : {S : Type 0} (sink : Ghosts S) (f : List ℕ → List ℕ) (text rest : List ℕ) (old new end : S) (result : Result (Unit {0}) SinkRefused)
     → Rewriting sink f text old new rest → ((k : ℕ) → k < length rest → starts_run (drop k rest) ≡ false)
     → PutsPieces sink new (rest ∷ []) result end → PutsText sink old (rewritten_by f zero Outside text) result end
 rewriting_end sink f text rest old new end result p none last = (

@@ -8,6 +8,7 @@ abbrev pub is_v0_run : List ℕ → Bool
 is_v0_run (first ∷ second ∷ third ∷ rest) = second == 82 || (second == 95 && third == 82)
 is_v0_run _ = false
 
--- the number of symbols that have to be read after this run, if `owed` had to be read before
-abbrev pub owed_after : List ℕ → ℕ → ℕ
-owed_after run owed = if is_v0_run run then length run / 4 + 1 else owed
+-- what the runs in vain cost after this one, of which so many bytes were printed with so much fuel within references,
+-- if they cost `owed` before
+abbrev pub owed_after : List ℕ → (printed fuel owed : ℕ) → ℕ
+owed_after run printed fuel owed = if is_v0_run run then owed + (length run / 8 + printed / 12 + fuel / 32 + 1) else owed

@@ -43,5 +43,4 @@ pub use Rattle.demangle_v0_grammar.specs.V0
 pub use Rattle.demangle_v0_grammar.specs.ValidationLooks
 -- Internal.
 pub mod PutsText
-pub mod HeldTexts
 pub mod Credit

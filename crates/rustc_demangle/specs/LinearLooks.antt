@@ -12,6 +12,10 @@ use Rattle.rustc_demangle.specs.declared.stream.fault.StreamFault.TheVariants.{R
 abbrev pub all_looks : RunLooks → ℕ
 all_looks looks = looks.accepting_looks + looks.printing_looks
 
+-- no count fell
+abbrev pub LooksGrow : (old new : RunLooks) → Type 0
+LooksGrow old new = (old.accepting_looks ≤ new.accepting_looks) × (old.printing_looks ≤ new.printing_looks)
+
 -- the most looks for each byte that is filtered
 abbrev pub looks_a_byte : ℕ
 looks_a_byte = 60 * (1 + 384) + 486
@@ -29,9 +33,9 @@ LooksLinear format n old new = LooksPaid format n 0 old new
 abbrev pub StepPaid : Format → (pending next : Unwritten) → (left rest : Option (List ℕ)) → (old new : RunLooks) → Type 0
 StepPaid format pending next left rest old new = IfSome left (λ xs. IfSome rest (λ ys. LooksPaid format (length pending.bytes + length xs) (length next.bytes + length ys) old new))
 
--- after an error of the reader, no more looks were made
+-- after an error of the reader or a failed allocation, no more looks were made
 abbrev pub NoLooksUnread : StreamFault → (old new : RunLooks) → Type 0
 NoLooksUnread (Read e) old new = new ≡ old
-NoLooksUnread NotUtf8 old new = Unit {0}
+NoLooksUnread NotUtf8 old new = new ≡ old
 NoLooksUnread (Write e) old new = Unit {0}
-NoLooksUnread Memory old new = Unit {0}
+NoLooksUnread Memory old new = new ≡ old

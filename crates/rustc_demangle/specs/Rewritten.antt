@@ -1,16 +1,15 @@
--- A text with its symbols replaced, where the bytes before a run determine what its replacement takes the place of.
-use Rattle.std.specs.Prelude.{◌≡◌, ◌⊎◌, ◌+◌, ℕ, zero, suc, length, Bool, true, false, ◌||◌, ◌&&◌, ◌==◌, if◌then◌else◌, List, [], ◌∷◌, ◌++◌, codes}
-use Rattle.std.specs.List.{prefix_len, take_while}
-use Rattle.std.specs.Char.{is_ascii_alphanumeric}
+-- A text with its symbols replaced. A run that begins with `_RC` stays, and a path also replaces a single `_` before its run.
+use Rattle.std.specs.Prelude.{◌≡◌, ◌⊎◌, ◌+◌, ℕ, zero, suc, length, Bool, true, false, ◌||◌, ◌&&◌, ◌==◌, nat_eq, if◌then◌else◌, List, [], ◌∷◌, ◌++◌, codes}
+use Rattle.std.specs.List.{starts_with, prefix_len, take_while}
 use Rattle.demangle_value.specs.Filtered.{is_run_byte, starts_run, HasNoStart, IsRun, IsReplacement, replacement_in}
 use Rattle.demangle_value.specs.Symbols.{bounded_within, linear}
 use Rattle.demangle_value.specs.declared.format.Format.{Format}
 use Rattle.rustc_demangle.specs.declared.byte_before.ByteBefore.{ByteBefore}
-use Rattle.rustc_demangle.specs.declared.byte_before.ByteBefore.TheVariants.{Outside, Alphanumeric, Mark}
+use Rattle.rustc_demangle.specs.declared.byte_before.ByteBefore.TheVariants.{Outside, Inside}
 
--- what a byte is for the text after it: an ASCII letter or digit, another run byte, or outside of runs
+-- what a byte is for the text after it: a run byte, or outside of runs
 abbrev pub before_of : ℕ → ByteBefore
-before_of c = if is_ascii_alphanumeric c then Alphanumeric else (if is_run_byte c then Mark else Outside)
+before_of c = if is_run_byte c then Inside else Outside
 
 -- what is before the text that follows these bytes
 abbrev pub before_after : ByteBefore → List ℕ → ByteBefore
@@ -21,31 +20,36 @@ before_after before (c ∷ s) = before_after (before_of c) s
 abbrev pub starts_underscored_run : ByteBefore → List ℕ → Bool
 starts_underscored_run Outside [] = false
 starts_underscored_run Outside (c ∷ s) = c == 95 && starts_run s
-starts_underscored_run Alphanumeric s = false
-starts_underscored_run Mark s = false
+starts_underscored_run Inside s = false
 
 -- A candidate starts here: a run, or such a `_` and run. It has all run bytes that follow.
 abbrev pub starts_candidate : ByteBefore → List ℕ → Bool
 starts_candidate before s = starts_run s || starts_underscored_run before s
 
--- what takes the place of a candidate: after a letter or digit, the candidate itself
-abbrev pub replacement_after : Format → ByteBefore → List ℕ → List ℕ
-replacement_after format Outside candidate = replacement_in format candidate
-replacement_after format Alphanumeric candidate = candidate
-replacement_after format Mark candidate = replacement_in format candidate
+-- a run that begins with `_RC`, which would be the symbol of a crate alone
+abbrev pub names_crate : List ℕ → Bool
+names_crate run = starts_with nat_eq run (codes "_RC")
+
+-- a candidate with such a run
+abbrev pub stays : List ℕ → Bool
+stays candidate = names_crate candidate || starts_with nat_eq candidate (codes "__RC")
+
+-- what takes the place of a candidate
+abbrev pub replacement_of : Format → List ℕ → List ℕ
+replacement_of format candidate = if stays candidate then candidate else replacement_in format candidate
 
 -- the text without its first `skip` bytes, with each candidate replaced by the result of `replaced`
-unfoldable pub rewritten_by : (ByteBefore → List ℕ → List ℕ) → ℕ → ByteBefore → List ℕ → List ℕ
+unfoldable pub rewritten_by : (List ℕ → List ℕ) → ℕ → ByteBefore → List ℕ → List ℕ
 rewritten_by replaced skip before [] = []
 rewritten_by replaced (suc skip) before (c ∷ s) = rewritten_by replaced skip (before_of c) s
 rewritten_by replaced zero before (c ∷ s) = elim (starts_candidate before (c ∷ s)) [
-  | true ↦ replaced before (c ∷ take_while is_run_byte s) ++ rewritten_by replaced (prefix_len is_run_byte s) (before_of c) s
+  | true ↦ replaced (c ∷ take_while is_run_byte s) ++ rewritten_by replaced (prefix_len is_run_byte s) (before_of c) s
   | false ↦ c ∷ rewritten_by replaced zero (before_of c) s
 ]
 
 -- a text that follows other bytes, with each candidate replaced, in a format
 abbrev pub rewritten_after : Format → ByteBefore → List ℕ → List ℕ
-rewritten_after format = rewritten_by (replacement_after format) zero
+rewritten_after format = rewritten_by (replacement_of format) zero
 
 -- a text that follows nothing
 abbrev pub rewritten_in : Format → List ℕ → List ℕ
@@ -67,21 +71,17 @@ EndsSingle before text = (s : List ℕ) × (text ≡ s ++ codes "_") × (before_
 abbrev pub IsPlainLen : ByteBefore → List ℕ → ℕ → Type 0
 IsPlainLen before text n = ((n ≡ length text) × (EndsSingle before text → ⊥)) ⊎ ((n + 1 ≡ length text) × EndsSingle before text)
 
--- these bytes end with an ASCII letter or digit
-abbrev pub EndsAlphanumeric : List ℕ → Type 0
-EndsAlphanumeric before = (s : List ℕ) × (c : ℕ) × (before ≡ s ++ c ∷ []) × (is_ascii_alphanumeric c ≡ true)
-
 -- these bytes are empty, or end with a byte that is not a run byte
 abbrev pub EndsOutside : List ℕ → Type 0
 EndsOutside before = (before ≡ []) ⊎ ((s : List ℕ) × (c : ℕ) × (before ≡ s ++ c ∷ []) × (is_run_byte c ≡ false))
 
--- `kept ++ text` takes the place of plain text and the run after it. After a letter or digit, nothing changes. After a
--- single `_`, a symbol with it is replaced. Otherwise the run is replaced as in `IsFiltered`.
+-- `kept ++ text` takes the place of plain text and the run after it. If the run begins with `_RC`, nothing changes. After
+-- a single `_`, a symbol with it is replaced. Otherwise the run is replaced as in `IsFiltered`.
 abbrev pub IsReplacementAfter : Format → List ℕ → List ℕ → List ℕ → List ℕ → Type 0
 IsReplacementAfter format plain run kept text =
-    (EndsAlphanumeric plain × (kept ≡ plain) × (text ≡ run))
-    ⊎ ((plain ≡ kept ++ codes "_") × EndsOutside kept × IsReplacement format (codes "_" ++ run) text)
-    ⊎ ((EndsAlphanumeric plain → ⊥) × ((s : List ℕ) → plain ≡ s ++ codes "_" → EndsOutside s → ⊥) × (kept ≡ plain) × IsReplacement format run text)
+    ((names_crate run ≡ true) × (kept ≡ plain) × (text ≡ run))
+    ⊎ ((names_crate run ≡ false) × (plain ≡ kept ++ codes "_") × EndsOutside kept × IsReplacement format (codes "_" ++ run) text)
+    ⊎ ((names_crate run ≡ false) × ((s : List ℕ) → plain ≡ s ++ codes "_" → EndsOutside s → ⊥) × (kept ≡ plain) × IsReplacement format run text)
 
 -- The text is a sequence of runs, each with the plain text before it, and plain text after the last one. `out` is the
 -- text with each run replaced.

@@ -1,5 +1,5 @@
 //! What is before a text, and which part of it a run takes in.
-ghost use Rattle.std.specs.Prelude.{◌≡◌, false, IsTrue, IfSome, IfNone};
+ghost use Rattle.std.specs.Prelude.{◌≡◌, false, IsTrue};
 ghost use Rattle.rustc_demangle.specs.Rewritten.{before_of, before_after, starts_candidate, IsPlainLen};
 
 use crate::runs::{is_run_byte, starts_run};
@@ -9,10 +9,8 @@ use crate::runs::{is_run_byte, starts_run};
 pub enum ByteBefore {
     /// Nothing, or a byte that is not a run byte. A run takes in a single `_` after it.
     Outside,
-    /// An ASCII letter or digit. A run directly after it is not replaced.
-    Alphanumeric,
-    /// `_`, `.` or `$`.
-    Mark,
+    /// A run byte.
+    Inside,
 }
 
 // A filter calls some of these methods at each run. They are inlined, as each is a few instructions.
@@ -22,13 +20,8 @@ impl ByteBefore {
     fn of(byte: u8) -> Self
         ensures { result ≡ before_of byte }
     {
-        // Most text before a run ends with a space.
-        if byte <= b' ' {
-            ByteBefore::Outside
-        } else if byte.is_ascii_alphanumeric() {
-            ByteBefore::Alphanumeric
-        } else if is_run_byte(byte) {
-            ByteBefore::Mark
+        if is_run_byte(byte) {
+            ByteBefore::Inside
         } else {
             ByteBefore::Outside
         }
@@ -44,15 +37,6 @@ impl ByteBefore {
         } else {
             ByteBefore::of(text[text.len() - 1])
         }
-    }
-
-    /// Returns whether this is a letter or digit.
-    #[inline(always)]
-    pub(crate) fn is_alphanumeric(self) -> bool
-        ensures yes { IsTrue result → self ≡ ByteBefore.Alphanumeric }
-        ensures no { result ≡ false → self ≡ ByteBefore.Alphanumeric → ⊥ }
-    {
-        matches!(self, ByteBefore::Alphanumeric)
     }
 
     /// Returns whether this is outside of runs.
@@ -92,20 +76,12 @@ impl ByteBefore {
 }
 
 /// Returns the length of the plain text before a run, without a single `_` at its end. The path of
-/// the run takes the place of that `_` too. Returns `None` if the text ends with an ASCII letter or
-/// digit, so the run is not replaced.
+/// the run takes the place of that `_` too.
 ///
 /// The plain text starts where the whole text does, or after the run before it. A `_` is single if
 /// it is the first byte or follows a byte that no run may have.
-pub fn plain_len(plain: &[u8]) -> Option<usize>
-    ensures some { IfSome result (λ n. IsPlainLen ByteBefore.Outside plain.now n) }
-    ensures replaced { IfSome result
-        (λ _. before_after ByteBefore.Outside plain.now ≡ ByteBefore.Alphanumeric → ⊥) }
-    ensures none { IfNone result
-        (before_after ByteBefore.Outside plain.now ≡ ByteBefore.Alphanumeric) }
+pub fn plain_len(plain: &[u8]) -> usize
+    ensures { IsPlainLen ByteBefore.Outside plain.now result }
 {
-    if ByteBefore::Outside.after(plain).is_alphanumeric() {
-        return None;
-    }
-    Some(ByteBefore::Outside.plain_len(plain))
+    ByteBefore::Outside.plain_len(plain)
 }

@@ -17,7 +17,7 @@ pub use demangle_value::value::printing::write_with_path_len;
 pub use demangle_value::{
     TryDemangleError, demangle, demangle_counted, try_demangle, try_demangle_counted,
 };
-pub use runs::{run_len, run_start};
+pub use runs::{run_len, run_start, stays};
 pub use slice::{demangle_slice, demangle_slice_counted, demangle_slice_formatted};
 pub use stream::{
     BytesFilter, StreamFault, SymbolMemo, demangle_bytes, demangle_bytes_counted,

@@ -1,7 +1,10 @@
 //! Finds the runs of a text. A run is a candidate symbol.
-ghost use Rattle.std.specs.Prelude.{◌≡◌, ◌∷◌, ℕ, List, ◌+◌, ◌<◌, ◌≤◌, ◌-◌, ◌==◌, true, false, length, take, drop, IfSome, IfNone};
+ghost use Rattle.std.specs.Prelude.{◌≡◌, ◌∷◌, ℕ, List, ◌+◌, ◌<◌, ◌≤◌, ◌-◌, ◌==◌, true, false, length, take, drop, codes, IsTrue, IfSome, IfNone};
 ghost use Rattle.std.specs.List.{prefix_len, list_all};
 ghost use Rattle.demangle_value.specs.Filtered.{is_run_byte, starts_run};
+ghost use Rattle.demangle_v0_grammar.specs.Table.{is_among};
+ghost use Rattle.demangle_value.specs.declared.format.Format.{Format};
+ghost use Rattle.rustc_demangle.specs.Rewritten.{stays, replacement_of};
 
 use memchr::memchr;
 use std::str;
@@ -180,6 +183,50 @@ pub fn run_len(text: &[u8]) -> usize
         at += 1;
     }
     at
+}
+
+/// Returns whether a filter of bytes keeps this candidate because its run begins with `_RC`. A
+/// candidate is a run, or a run with the single `_` before it.
+///
+/// A symbol that begins so is a crate alone. Compilers make none, and names such as `v1.0_RC0` are
+/// spelled so.
+#[inline(always)]
+pub fn stays(candidate: &[u8]) -> bool
+    ensures { result ≡ stays candidate.now }
+{
+    candidate.starts_with(b"_RC") || candidate.starts_with(b"__RC")
+}
+
+/// Returns whether this byte is the tag of a path of the v0 scheme that is more than a crate.
+#[inline(always)]
+fn begins_longer_path(tag: u8) -> bool
+    ensures { result ≡ is_among tag (codes "NMXYIB") }
+{
+    matches!(tag, b'N' | b'M' | b'X' | b'Y' | b'I' | b'B')
+}
+
+/// Returns whether a filter of bytes may replace this candidate. Returns `false` if its run begins
+/// with `_RC`, or with `_R` and a byte that is no tag of a path, as in `config_Release`.
+#[inline(always)]
+pub(crate) fn may_be_replaced(candidate: &[u8]) -> bool
+    ensures kept { result ≡ false → (format : Format) →
+        replacement_of format candidate.now ≡ candidate.now }
+    ensures read { IsTrue result → stays candidate.now ≡ false }
+{
+    if candidate.len() < 3 {
+        return true;
+    }
+    // Most symbols begin with `_RN` or `_ZN`.
+    if candidate[2] == b'N' {
+        return true;
+    }
+    if candidate[1] == b'R' {
+        return begins_longer_path(candidate[2]);
+    }
+    if candidate.len() > 3 && ((candidate[1] == b'_') & (candidate[2] == b'R')) {
+        return begins_longer_path(candidate[3]);
+    }
+    true
 }
 
 /// Returns the text of a run, which is ASCII.

@@ -4,39 +4,36 @@ ghost use Rattle.std.specs.List.{list_all};
 ghost use Rattle.demangle_sink.specs.Sink.{IsWithin};
 ghost use Rattle.demangle_sink.specs.Slice.{overlay};
 ghost use Rattle.demangle_value.specs.Filtered.{is_run_byte};
-ghost use Rattle.rustc_demangle.specs.LinearLooks.{LooksLinear};
-ghost use Rattle.rustc_demangle.specs.Rewritten.{replacement_after, rewritten_in, rewritten_within};
+ghost use Rattle.rustc_demangle.specs.LinearLooks.{LooksGrow, LooksLinear};
+ghost use Rattle.rustc_demangle.specs.Rewritten.{replacement_of, rewritten_in, rewritten_within};
 ghost use Rattle.rustc_demangle.specs.PutsText.{PutsText};
 
-use crate::byte_before::ByteBefore;
-use crate::runs::{run_len, run_start, run_text};
+use crate::byte_before::plain_len;
+use crate::runs::{may_be_replaced, run_len, run_start, run_text};
 use crate::text::put_run;
 use demangle_sink::{SinkRefused, SliceSink, TextSink};
 use demangle_symbol::cursor::RunLooks;
 use demangle_value::format::{Format, SizeLimit, unfolded_form};
 
-impl ByteBefore {
-    /// Writes the replacement of a candidate that follows this, and counts its looks. Fails if the
-    /// sink fails.
-    fn put_candidate<'b>(
-        self,
-        candidate: &[u8],
-        out: &mut SliceSink<'b>,
-        format: Format,
-        looks: &mut RunLooks,
-    ) -> Result<(), SinkRefused>
-        requires run { list_all is_run_byte candidate.now ≡ true }
-        requires not_failed { ⟦<SliceSink<'b> as TextSink>⟧.failed out.old ≡ false }
-        ensures text { PutsText ⟦<SliceSink<'b> as TextSink>⟧ out.old
-            (replacement_after format self candidate.now) result out.new }
-        ensures linear { 0 < length candidate.now →
-            LooksLinear format (length candidate.now) looks.old looks.new }
-    {
-        if self.is_alphanumeric() {
-            return out.put_bytes(candidate);
-        }
-        put_run(run_text(candidate), out, format, looks)
+/// Writes the replacement of a candidate, and counts its looks. Fails if the sink fails.
+fn put_candidate<'b>(
+    candidate: &[u8],
+    out: &mut SliceSink<'b>,
+    format: Format,
+    looks: &mut RunLooks,
+) -> Result<(), SinkRefused>
+    requires run { list_all is_run_byte candidate.now ≡ true }
+    requires not_failed { ⟦<SliceSink<'b> as TextSink>⟧.failed out.old ≡ false }
+    ensures text { PutsText ⟦<SliceSink<'b> as TextSink>⟧ out.old
+        (replacement_of format candidate.now) result out.new }
+    ensures grows { LooksGrow looks.old looks.new }
+    ensures linear { 0 < length candidate.now →
+        LooksLinear format (length candidate.now) looks.old looks.new }
+{
+    if !may_be_replaced(candidate) {
+        return out.put_bytes(candidate);
     }
+    put_run(run_text(candidate), out, format, looks)
 }
 
 /// Writes bytes, which need not be UTF-8, with each symbol of them demangled, and counts its looks.
@@ -52,17 +49,15 @@ fn put_slice<'b>(
         (rewritten_in format text.now) out.new) }
     ensures fits { IsWithin (length (rewritten_in format text.now))
         (⟦<SliceSink<'b> as TextSink>⟧.room out.old) → IsOk result }
+    ensures grows { LooksGrow looks.old looks.new }
     ensures linear { LooksLinear format (length text.now) looks.old looks.new }
 {
     let mut rest = text;
     while let Some(start) = run_start(rest) {
-        let before = ByteBefore::Outside;
-        let (kept, found) = rest.split_at(before.plain_len(&rest[..start]));
+        let (kept, found) = rest.split_at(plain_len(&rest[..start]));
         let (candidate, following) = found.split_at(run_len(found));
         out.put_bytes(kept)?;
-        before
-            .after(kept)
-            .put_candidate(candidate, out, format, looks)?;
+        put_candidate(candidate, out, format, looks)?;
         rest = following;
     }
     out.put_bytes(rest)
@@ -75,6 +70,7 @@ fn write_slice(text: &[u8], out: &mut [u8], format: Format, looks: &mut RunLooks
     ensures bytes { IfSome result
         (λ _. out.new ≡ overlay out.old (rewritten_in format text.now)) }
     ensures none { IfNone result (usize.MAX < length (rewritten_in format text.now)) }
+    ensures grows { LooksGrow looks.old looks.new }
     ensures linear { LooksLinear format (length text.now) looks.old looks.new }
 {
     let mut sink = SliceSink::new(out);
@@ -133,6 +129,7 @@ pub fn demangle_slice_counted(
     ensures size { IfSome result (λ n. n ≡ length (rewritten_in format text.now)) }
     ensures bytes { IfSome result (λ _. out.new ≡ overlay out.old (rewritten_in format text.now)) }
     ensures none { IfNone result (usize.MAX < length (rewritten_in format text.now)) }
+    ensures grows { LooksGrow looks.old looks.new }
     ensures linear { LooksLinear format (length text.now) looks.old looks.new }
 {
     write_slice(text, out, format, looks)

@@ -4,7 +4,7 @@ ghost use Rattle.std.specs.List.{list_all};
 ghost use Rattle.demangle_sink.specs.PutsPieces.{PutsPieces};
 ghost use Rattle.demangle_sink.specs.Writes.{Writes};
 ghost use Rattle.demangle_value.specs.Filtered.{filtered, is_run_byte};
-ghost use Rattle.rustc_demangle.specs.LinearLooks.{LooksLinear};
+ghost use Rattle.rustc_demangle.specs.LinearLooks.{LooksGrow, LooksLinear};
 ghost use Rattle.rustc_demangle.specs.TextPieces.{run_pieces, filtered_pieces, filtered_pieces_in};
 ghost use Rattle.demangle_value.specs.Limits.{most_bytes};
 
@@ -12,7 +12,8 @@ use crate::runs::{run_len, run_start};
 use demangle_sink::{SinkRefused, TextSink, put_piece};
 use demangle_symbol::cursor::RunLooks;
 use demangle_value::format::{Format, MAX_SIZE};
-use demangle_value::value::Demangle;
+use demangle_value::value::printing::write_pieces;
+use demangle_value::value::{has_style, read_run};
 
 /// Writes the replacement of a run: the pieces of its symbol, or the run itself if it is not a
 /// symbol. Counts its looks. Fails if the sink fails.
@@ -25,12 +26,13 @@ pub(crate) fn put_run<S: TextSink>(
     requires run { list_all is_run_byte run.now ≡ true }
     requires not_failed { S.failed out.old ≡ false }
     ensures pieces { PutsPieces S.TextSink out.old (run_pieces format run.now) result out.new }
+    ensures grows { LooksGrow looks.old looks.new }
     ensures linear { 0 < length run.now →
         LooksLinear format (length run.now) looks.old looks.new }
 {
-    let symbol = Demangle::read_run_counted(run, &mut looks.accepting_looks);
-    if symbol.has_style() {
-        symbol.write_pieces(out, format, &mut looks.printing_looks)
+    let symbol = read_run(run, &mut looks.accepting_looks);
+    if has_style(&symbol) {
+        write_pieces(&symbol, out, format, &mut looks.printing_looks)
     } else {
         put_piece(run, out)
     }
@@ -56,9 +58,10 @@ fn put_text<S: TextSink>(text: &str, out: &mut S, format: Format) -> Result<(), 
 /// before its suffix, as by `Demangle::write_limited`.
 ///
 /// A candidate symbol, or run, starts with `_ZN` or `_R`. It continues up to the next character
-/// that is not an ASCII letter, a digit, `$`, `.` or `_`. The text between two runs is one piece,
-/// and a run that is not a symbol is another. Each piece is passed to the sink by one `put`. If the
-/// sink has room for all pieces, the call succeeds. It does not allocate.
+/// that is not an ASCII letter, a digit, `$`, `.` or `_`. A symbol that begins with `_RC` is replaced
+/// too, unlike by `demangle_slice`. The text between two runs is one piece, and a run that is not a
+/// symbol is another. Each piece is passed to the sink by one `put`. If the sink has room for all
+/// pieces, the call succeeds. It does not allocate.
 ///
 /// # Errors
 ///

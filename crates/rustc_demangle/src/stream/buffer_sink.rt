@@ -1,8 +1,7 @@
 //! A sink that appends to a `GrowingBuffer`.
-ghost use Rattle.std.specs.Prelude.{◌≡◌, [], ◌++◌, length, Some, true, false, refl};
+ghost use Rattle.std.specs.Prelude.{◌≡◌, [], ◌++◌, Some, true, false, refl};
 ghost use Rattle.std.proofs.Common.{sym, ap, ◌∙◌};
 ghost use Rattle.std.proofs.lemmas.List.{append-nil, append_assoc};
-ghost use Rattle.rustc_demangle.specs.HeldTexts.{no_room_after};
 
 use demangle_sink::{SinkRefused, TextSink};
 use piece_buffer::GrowingBuffer;
@@ -39,8 +38,6 @@ impl<'h> TextSink for BufferSink<'h> {
 
     ghost keeps = { true };
 
-    ghost copies = { true };
-
     ghost held = { λ s. Some s.held.now };
 
     #[inline(always)]
@@ -76,15 +73,5 @@ impl<'h> TextSink for BufferSink<'h> {
     ghost took_joined = { λ s t u xs ys h k. (
       k.0 ∙ h.0,
       k.1 ∙ (ap (λ z. z ++ ys) h.1 ∙ append_assoc s.held.now xs ys),
-    ) };
-
-    ghost took_held = { λ s t xs h. h.1 };
-
-    ghost took_split = { λ s u xs ys c a h. (
-      record s { held = record s.held { now = s.held.now ++ xs } },
-      (refl, refl),
-      (h.0, h.1 ∙ sym (append_assoc s.held.now xs ys)),
-      a,
-      no_room_after (length xs),
     ) };
 }

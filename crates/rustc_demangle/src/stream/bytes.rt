@@ -4,7 +4,7 @@ ghost use Rattle.std.specs.Io.KnownBytes.{Appends};
 ghost use Rattle.rustc_demangle.specs.Rewritten.{rewritten, rewritten_after, rewritten_in, rewritten_within};
 ghost use Rattle.demangle_value.specs.Symbols.{bounded_within, linear};
 ghost use Rattle.rustc_demangle.specs.ByteStream.{Unwritten, unwritten, from_start, IsPartialCandidate, StepFiltered, StepFinished, StepFailed, BytesStopped};
-ghost use Rattle.rustc_demangle.specs.LinearLooks.{LooksLinear, NoLooksUnread, StepPaid};
+ghost use Rattle.rustc_demangle.specs.LinearLooks.{LooksGrow, LooksLinear, NoLooksUnread, StepPaid};
 
 use crate::byte_before::ByteBefore;
 use crate::stream::fault::{StreamFault, read_fault};
@@ -58,8 +58,8 @@ impl<A: Allocator> BytesFilter<A> {
     /// # Errors
     ///
     /// Fails if the reader or the writer fails, or if memory can't be allocated. If the reader or
-    /// an allocation fails, nothing is consumed and nothing is written. The caller can then repeat
-    /// the step, for example after an interrupted read.
+    /// an allocation fails, nothing is consumed, nothing is written and no look is made. The caller
+    /// can then repeat the step, for example after an interrupted read.
     pub fn step_counted<R: BufRead, W: Write>(
         &mut self,
         input: &mut R,
@@ -77,11 +77,12 @@ impl<A: Allocator> BytesFilter<A> {
             (R.remaining input.old) (R.remaining input.new)
             (W.contents output.old) (W.contents output.new)) }
         ensures same { memo.new ≡ memo.old }
-        ensures paid { OnOk result (StepPaid memo.old self.old self.new (R.remaining input.old)
-            (R.remaining input.new) looks.old looks.new) }
+        ensures grows { LooksGrow looks.old looks.new }
+        ensures unread { IfErr result (λ fault. NoLooksUnread fault looks.old looks.new) }
         ensures linear { IfSome (R.remaining input.old) (λ left.
             LooksLinear memo.old (length self.old.bytes + length left) looks.old looks.new) }
-        ensures unread { IfErr result (λ fault. NoLooksUnread fault looks.old looks.new) }
+        ensures paid { OnOk result (StepPaid memo.old self.old self.new (R.remaining input.old)
+            (R.remaining input.new) looks.old looks.new) }
     {
         let available = match input.fill_buf() {
             Ok(available) => available,
@@ -129,14 +130,15 @@ impl<A: Allocator> BytesFilter<A> {
 ///
 /// A candidate symbol, or run, starts with `_ZN` or `_R`. It continues up to the next byte that is
 /// not an ASCII letter, a digit, `$`, `.` or `_`. A run that is not a symbol is written unchanged,
-/// and so is one directly after an ASCII letter or digit. A path also replaces a single `_` before
-/// its run, if that `_` is the first byte or follows a byte that no run may have.
+/// and so is one that begins with `_RC`. A path also replaces a single `_` before its run, if that
+/// `_` is the first byte or follows a byte that no run may have.
 ///
 /// The input is read in the reader's chunks and not by lines. The bytes of a chunk between two runs
 /// are one write. Memory holds the unfinished run at the end of the bytes so far, and a
-/// `SymbolMemo`. So a v0 symbol of 20 to 2,048 bytes is one write, and so is such a legacy symbol
-/// with a hash. If it prints more than 2,048 bytes, it is written in parts if `limit` is over
-/// 1,000,000, or if memory for it can't be allocated. Each piece of another symbol is one write.
+/// `SymbolMemo`. So a v0 symbol of at least 20 bytes is one write, and so is a legacy symbol of 20
+/// to 2,048 bytes with a hash. If it prints more than 2,048 bytes, it is written in parts if `limit`
+/// is over 1,000,000, or if memory for it can't be allocated. Each piece of another symbol is one
+/// write.
 ///
 /// # Errors
 ///
@@ -181,6 +183,7 @@ pub fn demangle_bytes_counted<R: BufRead, W: Write>(
         BytesStopped (rewritten_after memo.old) fault (from_start text)
         (W.contents output.old) (W.contents output.new))) }
     ensures same { memo.new ≡ memo.old }
+    ensures grows { LooksGrow looks.old looks.new }
     ensures linear { IfSome (R.remaining input.old) (λ text.
         LooksLinear memo.old (length text) looks.old looks.new) }
 {

@@ -4,6 +4,7 @@ ghost use Rattle.std.specs.Io.KnownBytes.{Appends};
 ghost use Rattle.std.specs.List.{concat, list_all};
 ghost use Rattle.demangle_value.specs.Filtered.{filtered, is_run_byte, replacement_in};
 ghost use Rattle.demangle_value.specs.Stripped.{stripped};
+ghost use Rattle.rustc_demangle.specs.LinearLooks.{LooksGrow};
 ghost use Rattle.demangle_value.specs.LinearPrinting.{PrintsLinear};
 ghost use Rattle.demangle_value.specs.Symbols.{PrintingLooksIn, handed_in};
 
@@ -12,7 +13,7 @@ use demangle_sink::WriteSink;
 use demangle_symbol::cursor::{Looks, RunLooks};
 use demangle_value::coalescing::write_at_once;
 use demangle_value::format::Format;
-use demangle_value::value::Demangle;
+use demangle_value::value::{Demangle, has_style, read_run};
 use std::io;
 use std::io::Write;
 
@@ -78,9 +79,10 @@ fn write_read_at_once<W: Write>(
     requires { symbol.now ≡ stripped run.now }
     ensures text { OnOk result (Appends (W.contents output.old) (W.contents output.new)
         (replacement_in format run.now)) }
+    ensures grows { looks.old ≤ looks.new }
     ensures prints { PrintsLinear format 1 (length run.now) looks.old looks.new }
 {
-    if symbol.has_style() {
+    if has_style(symbol) {
         write_symbol_at_once(symbol, output, format, looks)
     } else {
         write_text(run, output)
@@ -98,11 +100,12 @@ pub(super) fn write_run_at_once<W: Write>(
     requires { list_all is_run_byte run.now ≡ true }
     ensures text { OnOk result (Appends (W.contents output.old) (W.contents output.new)
         (replacement_in format run.now)) }
+    ensures grows { LooksGrow looks.old looks.new }
     ensures most { looks.new.accepting_looks ≤ looks.old.accepting_looks + 61 * (length run.now + 1) }
     ensures prints { PrintsLinear format 1 (length run.now) looks.old.printing_looks
         looks.new.printing_looks }
 {
-    let symbol = Demangle::read_run_counted(run, &mut looks.accepting_looks);
+    let symbol = read_run(run, &mut looks.accepting_looks);
     write_read_at_once(&symbol, run, output, format, &mut looks.printing_looks)
 }
 
@@ -117,12 +120,13 @@ pub(super) fn write_run<W: Write>(
     requires { list_all is_run_byte run.now ≡ true }
     ensures text { OnOk result (Appends (W.contents output.old) (W.contents output.new)
         (replacement_in format run.now)) }
+    ensures grows { LooksGrow looks.old looks.new }
     ensures most { looks.new.accepting_looks ≤ looks.old.accepting_looks + 61 * (length run.now + 1) }
     ensures prints { PrintsLinear format 1 (length run.now) looks.old.printing_looks
         looks.new.printing_looks }
 {
-    let symbol = Demangle::read_run_counted(run, &mut looks.accepting_looks);
-    if symbol.has_style() {
+    let symbol = read_run(run, &mut looks.accepting_looks);
+    if has_style(&symbol) {
         write_symbol(&symbol, output, format, &mut looks.printing_looks)
     } else {
         write_text(run, output)

@@ -3,7 +3,7 @@ ghost use Rattle.std.specs.Prelude.{◌≡◌, ◌+◌, ◌*◌, ◌<◌, ◌≤
 ghost use Rattle.std.specs.List.{concat, list_all};
 ghost use Rattle.std.specs.Io.KnownBytes.{Appends};
 ghost use Rattle.demangle_value.specs.Filtered.{is_run_byte, replacement_in};
-ghost use Rattle.rustc_demangle.specs.LinearLooks.{LooksLinear};
+ghost use Rattle.rustc_demangle.specs.LinearLooks.{LooksGrow, LooksLinear};
 ghost use Rattle.demangle_value.specs.LinearPrinting.{PrintsLinear};
 ghost use Rattle.demangle_value.specs.Stripped.{stripped};
 ghost use Rattle.demangle_value.specs.Symbols.{PrintingLooksIn, bounded_within, handed_in};
@@ -14,9 +14,9 @@ use crate::stream::buffer_sink::BufferSink;
 use crate::stream::credit::{Credit, starts_as_v0};
 use crate::stream::line_writer::{write_run, write_run_at_once};
 use demangle_symbol::cursor::{Looks, RunLooks};
-use demangle_value::format::{Format, MAX_SIZE, SizeLimit, unfolded_form};
-use demangle_value::value::Demangle;
+use demangle_value::format::{Format, MAX_SIZE, SizeLimit, TextFormat, unfolded_form};
 use demangle_value::value::printing::{Tried, print_legacy_run, print_v0_run};
+use demangle_value::value::{Demangle, has_style, read_run};
 use piece_buffer::GrowingBuffer;
 use std::alloc::Global;
 use std::io;
@@ -87,10 +87,11 @@ struct Store {
 
 /// A memo of printed symbols, with which a filter does not parse a repeated symbol again.
 ///
-/// It belongs to one format, in which all its texts were printed. It allocates at most 5.5 MB of
-/// memory, of which the last printed text uses at most 1,024,000 bytes. It allocates none if there
-/// are no symbols. A lookup compares at most two symbols. If memory can't be allocated, symbols are
-/// parsed as without a memo. The memo turns itself off for a while if few symbols repeat.
+/// It belongs to one format, in which all its texts were printed. It has at most 5.5 MB of memory,
+/// of which the last printed text uses at most 1,024,000 bytes, and 7.6 MB while that grows. It
+/// allocates none if there are no symbols. A lookup compares at most two symbols. If memory can't be
+/// allocated, symbols are parsed as without a memo. The memo turns itself off for a while if few
+/// symbols repeat.
 #[derive(Drop)]
 pub struct SymbolMemo {
     alloc: Global,
@@ -131,21 +132,22 @@ fn print_to_buffer(
 }
 
 /// Prints a run into the buffer before it is known to be a symbol, and counts its looks. Returns
-/// what is known of it then. Unless it was printed, the buffer may have a part of it.
+/// what is known of it then, and how much fuel its references used up. Unless it was printed, the
+/// buffer may have a part of it.
 #[inline(always)]
 fn print_first<'a>(
     run: &'a str,
     held: &mut GrowingBuffer,
     format: Format,
     looks: &mut RunLooks,
-) -> Tried<'a>
+) -> (Tried<'a>, usize)
     requires run { list_all is_run_byte run.now ≡ true }
     requires some { 1 < length run.now }
-    ensures printed { result ≡ Tried.Printed → held.new ≡ replacement_in format run.now }
-    ensures read { IsRunRead run.now result }
-    ensures grows { looks.old.accepting_looks ≤ looks.new.accepting_looks }
+    ensures printed { result.0 ≡ Tried.Printed → held.new ≡ replacement_in format run.now }
+    ensures read { IsRunRead run.now result.0 }
+    ensures grows { LooksGrow looks.old looks.new }
     ensures most { looks.new.accepting_looks ≤ looks.old.accepting_looks + 143 * (length run.now + 1) }
-    ensures early { result ≡ Tried.Unknown → looks.new.accepting_looks
+    ensures early { result.0 ≡ Tried.Unknown → looks.new.accepting_looks
         ≤ looks.old.accepting_looks + 85 * (length run.now + 1) + 8 }
     ensures prints { PrintsLinear format 1 (length run.now) looks.old.printing_looks
         looks.new.printing_looks }
@@ -156,9 +158,9 @@ fn print_first<'a>(
         return print_v0_run(run, &mut sink, format, looks);
     }
     if print_legacy_run(run, &mut sink, format, &mut looks.accepting_looks) {
-        Tried::Printed
+        (Tried::Printed, 0)
     } else {
-        Tried::Unknown
+        (Tried::Unknown, 0)
     }
 }
 
@@ -206,7 +208,7 @@ impl Store {
         ensures printed { IfNone result (self.new.printed ≡ replacement_in format run.now) }
         ensures read { IfSome result (λ symbol. symbol ≡ stripped run.now) }
         ensures texts { self.new.texts ≡ self.old.texts }
-        ensures grows { looks.old.accepting_looks ≤ looks.new.accepting_looks }
+        ensures grows { LooksGrow looks.old looks.new }
         ensures most { looks.new.accepting_looks
             ≤ looks.old.accepting_looks + 152 * (length run.now + 1) }
         ensures prints { PrintsLinear format 1 (length run.now) looks.old.printing_looks
@@ -218,18 +220,22 @@ impl Store {
             MOST_PRINTED
         };
         if run.len() > most || !self.credit.is_given() {
-            let symbol = Demangle::read_run_counted(run, &mut looks.accepting_looks);
-            if symbol.has_style() {
+            let symbol = read_run(run, &mut looks.accepting_looks);
+            if has_style(&symbol) {
                 self.credit.gain();
             }
             return Some(symbol);
         }
-        let symbol = match print_first(run, &mut self.printed, format, looks) {
-            Tried::Printed => return None,
+        let (tried, fuel) = print_first(run, &mut self.printed, format, looks);
+        let symbol = match tried {
+            Tried::Printed => {
+                self.credit.gain();
+                return None;
+            }
             Tried::Read(symbol) => symbol,
-            Tried::Unknown => Demangle::read_run_counted(run, &mut looks.accepting_looks),
+            Tried::Unknown => read_run(run, &mut looks.accepting_looks),
         };
-        self.credit.lose(run);
+        self.credit.lose(run, self.printed.len(), fuel);
         Some(symbol)
     }
 
@@ -248,12 +254,13 @@ impl Store {
         ensures no_symbol { result ≡ Printed.NoSymbol →
             run.now ≡ replacement_in format run.now }
         ensures texts { self.new.texts ≡ self.old.texts }
+        ensures grows { looks.old ≤ looks.new }
         ensures prints { PrintsLinear format 1 (length run.now) looks.old looks.new }
     {
-        if !symbol.has_style() {
+        if !has_style(symbol) {
             return Printed::NoSymbol;
         }
-        if format.for_text(run.len()).limit > MAX_SIZE {
+        if TextFormat::for_text(format, run.len()).limit > MAX_SIZE {
             return Printed::NotHeld;
         }
         self.printed.clear();
@@ -275,7 +282,7 @@ impl Store {
         ensures no_symbol { result ≡ Printed.NoSymbol →
             run.now ≡ replacement_in format run.now }
         ensures texts { self.new.texts ≡ self.old.texts }
-        ensures grows { looks.old.accepting_looks ≤ looks.new.accepting_looks }
+        ensures grows { LooksGrow looks.old looks.new }
         ensures most { looks.new.accepting_looks
             ≤ looks.old.accepting_looks + 152 * (length run.now + 1) }
         ensures prints { PrintsLinear format 2 (length run.now) looks.old.printing_looks
@@ -299,7 +306,7 @@ impl Store {
             run.now ≡ replacement_in format run.now }
         ensures remembers { Remembers (replacement_in format) self.new.texts }
         ensures small { IsSmall self.old.texts → IsSmall self.new.texts }
-        ensures grows { looks.old.accepting_looks ≤ looks.new.accepting_looks }
+        ensures grows { LooksGrow looks.old looks.new }
         ensures most { looks.new.accepting_looks
             ≤ looks.old.accepting_looks + 152 * (length run.now + 1) }
         ensures prints { PrintsLinear format 2 (length run.now) looks.old.printing_looks
@@ -335,7 +342,7 @@ impl Store {
             run.now ≡ replacement_in format run.now }
         ensures remembers { Remembers (replacement_in format) self.new.texts }
         ensures small { IsSmall self.old.texts → IsSmall self.new.texts }
-        ensures grows { looks.old.accepting_looks ≤ looks.new.accepting_looks }
+        ensures grows { LooksGrow looks.old looks.new }
         ensures most { looks.new.accepting_looks
             ≤ looks.old.accepting_looks + 152 * (length run.now + 1) }
         ensures prints { PrintsLinear format 2 (length run.now) looks.old.printing_looks
@@ -348,7 +355,7 @@ impl Store {
             Noted::New => self.print_run(run, format, looks),
             Noted::Again => self.print_new(run, hash, format, looks),
             Noted::TooLong => {
-                let symbol = Demangle::read_run_counted(run, &mut looks.accepting_looks);
+                let symbol = read_run(run, &mut looks.accepting_looks);
                 self.print_read(&symbol, run, format, &mut looks.printing_looks)
             }
         }
@@ -398,6 +405,7 @@ impl SymbolMemo {
     }
 
     /// Returns the number of bytes of memory that the memo has allocated, which is at most 5.5 MB.
+    /// While it grows, the memory before is allocated too, until its bytes are copied.
     pub fn allocated(&self) -> usize
         ensures { result ≤ 5_500_000 }
     {
@@ -420,6 +428,7 @@ impl SymbolMemo {
         ensures text { OnOk result (Appends (W.contents output.old) (W.contents output.new)
             (replacement_in self.old run.now)) }
         ensures same { self.new ≡ self.old }
+        ensures grows { LooksGrow looks.old looks.new }
         ensures most { looks.new.accepting_looks
             ≤ looks.old.accepting_looks + 213 * (length run.now + 1) }
         ensures prints { PrintsLinear self.old 3 (length run.now) looks.old.printing_looks
@@ -430,6 +439,29 @@ impl SymbolMemo {
             Printed::NoSymbol => output.write_all(run.as_bytes()),
             Printed::NotHeld => write_run_at_once(run, output, self.format, looks),
         }
+    }
+
+    /// Writes the replacement of a run that is too long for the memo, as `write_new` does. The buffer
+    /// can copy parts of its text.
+    #[inline(never)]
+    fn write_long<W: Write>(
+        &mut self,
+        run: &str,
+        output: &mut W,
+        looks: &mut RunLooks,
+    ) -> io::Result<()>
+        requires all { list_all is_run_byte run.now ≡ true }
+        requires some { 1 < length run.now }
+        ensures text { OnOk result (Appends (W.contents output.old) (W.contents output.new)
+            (replacement_in self.old run.now)) }
+        ensures same { self.new ≡ self.old }
+        ensures grows { LooksGrow looks.old looks.new }
+        ensures most { looks.new.accepting_looks
+            ≤ looks.old.accepting_looks + 213 * (length run.now + 1) }
+        ensures prints { PrintsLinear self.old 3 (length run.now) looks.old.printing_looks
+            looks.new.printing_looks }
+    {
+        self.write_new(run, None, output, looks)
     }
 
     /// Writes the replacement of a run: the printed symbol, or the run itself if it is not a
@@ -448,9 +480,13 @@ impl SymbolMemo {
             (replacement_in self.old run.now)) }
         ensures same { self.new ≡ self.old }
         ensures compared { comparisons.new ≤ comparisons.old + 2 }
+        ensures grows { LooksGrow looks.old looks.new }
         ensures linear { LooksLinear self.old (length run.now) looks.old looks.new }
     {
         if !is_looked_up(run.as_bytes()) {
+            if run.len() > MAX_KEY && starts_as_v0(run.as_bytes()) {
+                return self.write_long(run, output, looks);
+            }
             return write_run(run, output, self.format, looks);
         }
         if !self.probe.is_on() {

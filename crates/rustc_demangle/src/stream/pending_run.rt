@@ -4,12 +4,12 @@ ghost use Rattle.std.specs.Prelude.{◌≡◌, ◌∷◌, ◌++◌, ◌+◌, ◌
 ghost use Rattle.std.specs.List.{list_all};
 ghost use Rattle.std.specs.Io.KnownBytes.{Appends};
 ghost use Rattle.demangle_value.specs.Filtered.{is_run_byte, starts_run};
-ghost use Rattle.rustc_demangle.specs.LinearLooks.{LooksLinear, LooksPaid};
-ghost use Rattle.rustc_demangle.specs.Rewritten.{before_after, starts_candidate, replacement_after, rewritten_after};
+ghost use Rattle.rustc_demangle.specs.LinearLooks.{LooksGrow, LooksLinear, LooksPaid, NoLooksUnread};
+ghost use Rattle.rustc_demangle.specs.Rewritten.{before_after, starts_candidate, replacement_of, rewritten_after};
 ghost use Rattle.rustc_demangle.specs.ByteStream.{unwritten, SplitsNoCandidate, IsPartialRun, IsPartialCandidate, FilteredChunkPrefix, IsWriting, ChunkFailed};
 
 use crate::byte_before::ByteBefore;
-use crate::runs::{run_len, run_start, run_text};
+use crate::runs::{may_be_replaced, run_len, run_start, run_text};
 use crate::stream::fault::StreamFault;
 use crate::stream::memo::SymbolMemo;
 use demangle_symbol::cursor::RunLooks;
@@ -46,19 +46,19 @@ impl SymbolMemo {
     fn write_candidate<W: Write>(
         &mut self,
         candidate: &[u8],
-        before: ByteBefore,
         output: &mut W,
         looks: &mut RunLooks,
     ) -> Result<(), StreamFault>
         requires all { list_all is_run_byte candidate.now ≡ true }
         requires some { 0 < length candidate.now }
         ensures ok { OnOk result (Appends (W.contents output.old) (W.contents output.new)
-            (replacement_after self.old before candidate.now)) }
+            (replacement_of self.old candidate.now)) }
         ensures named { IfErr result IsWriting }
         ensures same { self.new ≡ self.old }
+        ensures grows { LooksGrow looks.old looks.new }
         ensures linear { LooksLinear self.old (length candidate.now) looks.old looks.new }
     {
-        if before.is_alphanumeric() {
+        if !may_be_replaced(candidate) {
             return write_unchanged(candidate, output);
         }
         match self.write_run(run_text(candidate), output, &mut Comparisons::new(), looks) {
@@ -133,12 +133,13 @@ impl<A: Allocator> Pending<A> {
         ensures none { self.new.bytes.items ≡ [] }
         ensures last { self.new.before ≡ before_after self.old.before self.old.bytes.items }
         ensures same { memo.new ≡ memo.old }
+        ensures grows { LooksGrow looks.old looks.new }
         ensures linear { LooksLinear memo.old (length self.old.bytes.items) looks.old looks.new }
     {
         let before = self.before;
         let text = self.bytes.as_slice();
         let written = if before.starts_candidate(text) {
-            memo.write_candidate(text, before, output, looks)
+            memo.write_candidate(text, output, looks)
         } else {
             write_unchanged(text, output)
         };
@@ -174,10 +175,12 @@ impl<A: Allocator> Pending<A> {
             (unwritten self.new.before self.new.bytes.items)
             (W.contents output.old) (W.contents output.new)) }
         ensures same { memo.new ≡ memo.old }
+        ensures grows { LooksGrow looks.old looks.new }
         ensures paid { IfOk result (λ n. LooksPaid memo.old (length self.old.bytes.items + n)
             (length self.new.bytes.items) looks.old looks.new) }
         ensures lost { LooksLinear memo.old (length self.old.bytes.items + length available.now) looks.old
             looks.new }
+        ensures unread { IfErr result (λ fault. NoLooksUnread fault looks.old looks.new) }
     {
         if extends_prefix(self.before, self.bytes.as_slice(), available[0]) {
             buffer_bytes(&mut self.bytes, &available[..1])?;
@@ -213,10 +216,12 @@ impl<A: Allocator> Pending<A> {
             (unwritten self.new.before self.new.bytes.items)
             (W.contents output.old) (W.contents output.new)) }
         ensures same { memo.new ≡ memo.old }
+        ensures grows { LooksGrow looks.old looks.new }
         ensures paid { IfOk result (λ n. LooksPaid memo.old (length self.old.bytes.items + n)
             (length self.new.bytes.items) looks.old looks.new) }
         ensures lost { LooksLinear memo.old (length self.old.bytes.items + length available.now) looks.old
             looks.new }
+        ensures unread { IfErr result (λ fault. NoLooksUnread fault looks.old looks.new) }
     {
         let len = run_len(available);
         buffer_bytes(&mut self.bytes, &available[..len])?;
@@ -253,10 +258,12 @@ impl<A: Allocator> Pending<A> {
             (unwritten self.new.before self.new.bytes.items)
             (W.contents output.old) (W.contents output.new)) }
         ensures same { memo.new ≡ memo.old }
+        ensures grows { LooksGrow looks.old looks.new }
         ensures paid { IfOk result (λ n. LooksPaid memo.old (length self.old.bytes.items + n)
             (length self.new.bytes.items) looks.old looks.new) }
         ensures lost { LooksLinear memo.old (length self.old.bytes.items + length available.now) looks.old
             looks.new }
+        ensures unread { IfErr result (λ fault. NoLooksUnread fault looks.old looks.new) }
     {
         let before = self.before;
         let Some(start) = run_start(available) else {
@@ -271,17 +278,16 @@ impl<A: Allocator> Pending<A> {
         };
         let (kept, found) = available.split_at(before.plain_len(&available[..start]));
         let len = run_len(found);
-        let before_found = before.after(kept);
         if len == found.len() {
             buffer_bytes(&mut self.bytes, found)?;
-            self.before = before_found;
+            self.before = before.after(kept);
             write_unchanged(kept, output)?;
             return Ok(available.len());
         }
         write_unchanged(kept, output)?;
         let candidate = &found[..len];
-        memo.write_candidate(candidate, before_found, output, looks)?;
-        self.before = before_found.after(candidate);
+        memo.write_candidate(candidate, output, looks)?;
+        self.before = ByteBefore::Inside;
         Ok(kept.len() + len)
     }
 
@@ -310,10 +316,12 @@ impl<A: Allocator> Pending<A> {
             (unwritten self.new.before self.new.bytes.items)
             (W.contents output.old) (W.contents output.new)) }
         ensures same { memo.new ≡ memo.old }
+        ensures grows { LooksGrow looks.old looks.new }
         ensures paid { IfOk result (λ n. LooksPaid memo.old (length self.old.bytes.items + n)
             (length self.new.bytes.items) looks.old looks.new) }
         ensures lost { LooksLinear memo.old (length self.old.bytes.items + length available.now) looks.old
             looks.new }
+        ensures unread { IfErr result (λ fault. NoLooksUnread fault looks.old looks.new) }
     {
         if self.bytes.is_empty() {
             return self.filter_text(available, output, memo, looks);
