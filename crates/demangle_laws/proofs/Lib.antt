@@ -5,6 +5,7 @@ pub mod FilterLaws
 pub mod ItemLineFeeds
 pub mod LineLaws
 pub mod SchemeLaws
+pub mod TreeTexts
 pub mod StripLaws
 pub mod TableLineFeeds
 pub mod V0LineFeeds

@@ -23,11 +23,11 @@ use Rattle.demangle_v0_grammar.proofs.V0Reading.{v0_is_read}
 use Rattle.demangle_laws.proofs.V0LineFeeds.{line_feeds-rendered}
 use Rattle.demangle_v0_grammar.specs.References.{Move, says, follows, ends, bytes_after, texts_before, path_moves}
 use Rattle.demangle_v0_grammar.proofs.ReferenceLaw.{unlimited_texts}
-use Rattle.demangle_value.specs.Shape.{LimitedForm, texts_within, is_all, marked_unless, path_texts, legacy_pieces}
+use Rattle.demangle_value.specs.Shape.{LimitedForm, texts_within, is_all, marked_unless, path_pieces}
 use Rattle.demangle_sink.specs.Cut.{size, prefix_within, cut, marker}
 use Rattle.rustc_demangle.specs.Lines.{lines, line_feeds}
 use Rattle.demangle_legacy.specs.Legacy.{IsElements, IsLegacy}
-use Rattle.demangle_legacy.specs.Unescaped.{escape_of_code, escape_of_digits, escape_of, lower_hex, leading_unit, pieces_from, unescaped, is_hash, printed_elements, following_pieces, joined_pieces, is_lower_hex, is_dollar, is_special}
+use Rattle.demangle_legacy.specs.Unescaped.{escape_of_code, escape_of_digits, escape_of, lower_hex, leading_unit, pieces_from, unescaped, is_hash, printed_elements, following_pieces, joined_pieces, legacy_pieces, is_lower_hex, is_dollar, is_special}
 use Rattle.demangle_laws.proofs.LineFeeds.{line_feeds-append, line_feeds-concat, line_feeds-cons, line_feeds-drop, line_feeds-other, line_feeds-character}
 
 cases : (b : Bool) → (b ≡ true) ⊎ (b ≡ false)
@@ -197,7 +197,7 @@ line_feeds-elements (element ∷ elements) text suffix is =
 
 -- the pieces of a legacy symbol
 line_feeds-legacy : (form : LimitedForm) (text : List ℕ) (elements : List (List ℕ)) (suffix : List ℕ) → IsLegacy text elements suffix
-    → line_feeds (concat (legacy_pieces form elements)) + line_feeds suffix ≤ line_feeds text
+    → line_feeds (concat (legacy_pieces form.plain elements)) + line_feeds suffix ≤ line_feeds text
 line_feeds-legacy form text elements suffix is =
     let hash = form.plain.include_hash in
     omega (arith, line_feeds-joined (printed_elements hash elements), line_feeds-printed hash elements, line_feeds-elements elements is.1 suffix is.5, ap line_feeds is.2, line_feeds-append is.0 is.1)
@@ -220,7 +220,7 @@ line_feeds-marked : (all : Bool) (texts : List (List ℕ)) → line_feeds (conca
 line_feeds-marked true texts = refl
 line_feeds-marked false texts = omega (arith, line_feeds-concat texts (marker ∷ []))
 
-line_feeds-v0 : (inner : List ℕ) (form : LimitedForm) → line_feeds inner ≡ 0 → line_feeds (concat (path_texts inner form)) ≡ 0
+line_feeds-v0 : (inner : List ℕ) (form : LimitedForm) → line_feeds inner ≡ 0 → line_feeds (concat (path_pieces inner form)) ≡ 0
 line_feeds-v0 inner form none =
     omega (
       arith,
@@ -241,11 +241,11 @@ unfolding read_of
 line_feeds-symbol form text read e none = go (symbol-pieces form text read e) where
   go : IsSymbol text → (line_feeds (concat read.0) ≡ 0) × (line_feeds read.1 ≡ 0)
   go (inl (elements, suffix, legacy, allowed)) =
-      let same : read ≡ (legacy_pieces form elements, suffix) = ap read_of (sym e ∙ pieces-legacy form text elements suffix (legacy_spelled text elements suffix legacy) allowed) in
+      let same : read ≡ (legacy_pieces form.plain elements, suffix) = ap read_of (sym e ∙ pieces-legacy form text elements suffix (legacy_spelled text elements suffix legacy) allowed) in
       let bound = line_feeds-legacy form text elements suffix legacy in
       (omega (arith, none, bound, ap (λ r. line_feeds (concat r.0)) same), omega (arith, none, bound, ap (λ r. line_feeds r.1) same))
   go (inr (inner, suffix, v0, allowed)) =
-      let same : read ≡ (path_texts inner form, suffix) = ap read_of (sym e ∙ pieces-v0 form text inner suffix (v0_is_read text inner suffix v0) allowed) in
+      let same : read ≡ (path_pieces inner form, suffix) = ap read_of (sym e ∙ pieces-v0 form text inner suffix (v0_is_read text inner suffix v0) allowed) in
       let part = v0.5 in
       let within : line_feeds inner ≡ 0 = omega (arith, none, ap line_feeds v0.1, line_feeds-append v0.0 inner) in (
         ap (λ r. line_feeds (concat r.0)) same ∙ line_feeds-v0 inner form within,

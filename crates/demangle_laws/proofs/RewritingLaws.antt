@@ -3,17 +3,16 @@ use Rattle.std.proofs.Common.{◌≡◌, ℕ, zero, suc, ◌+◌, ◌-◌, ◌<�
 use Rattle.std.proofs.Math.Seq.{drop-cons, drop-append_seam}
 use Rattle.std.proofs.lemmas.List.{take-append-drop, drop-append-le, drop_all}
 use Rattle.std.proofs.lemmas.Bool.{true≢false}
-use Rattle.std.specs.Char.{is_ascii_alphanumeric}
-use Rattle.std.specs.Prelude.{flat_map}
-use Rattle.std.specs.List.{prefix_len, take_while, list_all, concat}
+use Rattle.std.specs.Prelude.{nat_eq, flat_map}
+use Rattle.std.specs.List.{starts_with, prefix_len, take_while, list_all, concat}
 use Rattle.std.proofs.lemmas.List.Folds.{list_all-append}
 use Rattle.rustc_demangle.specs.Lines.{lines, line_feeds, AreLines}
 use Rattle.rustc_demangle.specs.ByteStream.{SplitsNoCandidate}
 use Rattle.demangle_value.specs.Filtered.{is_run_byte, starts_run, HasNoStart, StartsOutsideRun, IsRun, replacement_in}
-use Rattle.rustc_demangle.specs.Rewritten.{before_of, before_after, starts_candidate, replacement_after, rewritten_by, rewritten_in, EndsSingle, EndsAlphanumeric, EndsOutside, IsReplacementAfter, AreRewritten, IsRewritten}
+use Rattle.rustc_demangle.specs.Rewritten.{before_of, before_after, starts_candidate, names_crate, stays, replacement_of, rewritten_by, rewritten_in, EndsSingle, EndsOutside, IsReplacementAfter, AreRewritten, IsRewritten}
 use Rattle.demangle_value.specs.declared.format.Format.{Format}
 use Rattle.rustc_demangle.specs.declared.byte_before.ByteBefore.{ByteBefore}
-use Rattle.rustc_demangle.specs.declared.byte_before.ByteBefore.TheVariants.{Outside, Alphanumeric, Mark}
+use Rattle.rustc_demangle.specs.declared.byte_before.ByteBefore.TheVariants.{Outside, Inside}
 use Rattle.demangle_value.proofs.RunStarts.{begins_more, all_prefix, and_right}
 use Rattle.rustc_demangle.proofs.CandidateLemmas.{candidate_turn, or_false, before_after-append, last_before, first_of_candidate, rewritten_nothing, single_of, single_parts, candidate_of, run_candidate, rewritten_candidate, rewritten_split, rewritten_plain, rewritten_outside, HasNoCandidate, cuts_plain, plain_of}
 use Rattle.rustc_demangle.proofs.ByteStreamLemmas.{seam}
@@ -26,52 +25,18 @@ use Rattle.demangle_laws.proofs.FilterLaws.{cases, shorter, none_in_none, no_sta
 
 -- What the last byte of a text is for the text after it.
 
-outside_is_not : Outside ≡ Alphanumeric → ⊥
-outside_is_not e = cc
-
-mark_is_not : Mark ≡ Alphanumeric → ⊥
-mark_is_not e = cc
-
-mark_not_outside : Mark ≡ Outside → ⊥
-mark_not_outside e = cc
-
-alphanumeric_not_outside : Alphanumeric ≡ Outside → ⊥
-alphanumeric_not_outside e = cc
-
-abbrev kind : Bool → Bool → ByteBefore
-kind true r = Alphanumeric
-kind false true = Mark
-kind false false = Outside
-
-before_kind : (c : ℕ) → before_of c ≡ kind (is_ascii_alphanumeric c) (is_run_byte c)
-before_kind c = at (is_ascii_alphanumeric c) (is_run_byte c)
-  where
-    at : (a r : Bool) → cond a Alphanumeric (cond r Mark Outside) ≡ kind a r
-    at true r = refl
-    at false true = refl
-    at false false = refl
-
-alphanumeric_of : (c : ℕ) → before_of c ≡ Alphanumeric → is_ascii_alphanumeric c ≡ true
-alphanumeric_of c e = at (is_ascii_alphanumeric c) (is_run_byte c) (sym (before_kind c) ∙ e)
-  where
-    at : (a r : Bool) → kind a r ≡ Alphanumeric → a ≡ true
-    at true r h = refl
-    at false true h = absurd (mark_is_not h)
-    at false false h = absurd (outside_is_not h)
+inside_is_not : Inside ≡ Outside → ⊥
+inside_is_not e = cc
 
 outside_of : (c : ℕ) → before_of c ≡ Outside → is_run_byte c ≡ false
-outside_of c e = at (is_ascii_alphanumeric c) (is_run_byte c) (sym (before_kind c) ∙ e)
+outside_of c e = at (is_run_byte c) e
   where
-    at : (a r : Bool) → kind a r ≡ Outside → r ≡ false
-    at true r h = absurd (alphanumeric_not_outside h)
-    at false true h = absurd (mark_not_outside h)
-    at false false h = refl
+    at : (r : Bool) → cond r Inside Outside ≡ Outside → r ≡ false
+    at true h = absurd (inside_is_not h)
+    at false h = refl
 
 of_outside : (c : ℕ) → is_run_byte c ≡ false → before_of c ≡ Outside
-of_outside c other = before_kind c ∙ ap (λ r. kind (is_ascii_alphanumeric c) r) other ∙ ap (λ a. kind a false) (or_false ((eqb c 36 || eqb c 46) || eqb c 95) (is_ascii_alphanumeric c) other).1
-
-of_alphanumeric : (c : ℕ) → is_ascii_alphanumeric c ≡ true → before_of c ≡ Alphanumeric
-of_alphanumeric c is = before_kind c ∙ ap (λ a. kind a (is_run_byte c)) is
+of_outside c other = ap (λ r. cond r Inside Outside) other
 
 -- a text by its last byte
 at_last : (s : List ℕ) → 0 < length s → s ≡ take (length s - 1) s ++ get_or s (length s - 1) 0 ∷ []
@@ -90,23 +55,9 @@ outside_before (x ∷ s) e =
     let some : 0 < length (x ∷ s) = omega arith in
     inr (take (length (x ∷ s) - 1) (x ∷ s), get_or (x ∷ s) (length (x ∷ s) - 1) 0, at_last (x ∷ s) some, outside_of (get_or (x ∷ s) (length (x ∷ s) - 1) 0) (sym (last_before Outside (x ∷ s) some) ∙ e))
 
-before_alphanumeric : (s : List ℕ) → EndsAlphanumeric s → before_after Outside s ≡ Alphanumeric
-before_alphanumeric s (t, c, e, is) = ap (before_after Outside) e ∙ before_after-append Outside t (c ∷ []) ∙ of_alphanumeric c is
-
-alphanumeric_before : (s : List ℕ) → before_after Outside s ≡ Alphanumeric → EndsAlphanumeric s
-alphanumeric_before [] e = absurd (outside_is_not e)
-alphanumeric_before (x ∷ s) e =
-    let some : 0 < length (x ∷ s) = omega arith in
-    (take (length (x ∷ s) - 1) (x ∷ s), get_or (x ∷ s) (length (x ∷ s) - 1) 0, at_last (x ∷ s) some, alphanumeric_of (get_or (x ∷ s) (length (x ∷ s) - 1) 0) (sym (last_before Outside (x ∷ s) some) ∙ e))
-
--- a text that ends with a `_` does not end with a letter or digit
-not_both : (s : List ℕ) → EndsSingle Outside s → before_after Outside s ≡ Alphanumeric → ⊥
-not_both s (t, e, out) is = mark_is_not (sym (ap (before_after Outside) e ∙ before_after-append Outside t (codes "_")) ∙ is)
-
 is_out : (b : ByteBefore) → (b ≡ Outside) ⊎ (b ≡ Outside → ⊥)
 is_out Outside = inl refl
-is_out Alphanumeric = inr alphanumeric_not_outside
-is_out Mark = inr mark_not_outside
+is_out Inside = inr inside_is_not
 
 is_single : (s : List ℕ) → EndsSingle Outside s ⊎ (EndsSingle Outside s → ⊥)
 is_single [] = inr (λ w. omega (arith, (single_parts Outside [] w).0))
@@ -132,29 +83,29 @@ none_before plain left none some k lt = ap starts_run (drop-append-le k plain le
     at (c ∷ t) e = no_start_append c t left (none (take k plain) (c ∷ t) (sym (take-append-drop k plain) ∙ ap (λ l. take k plain ++ l) e)) (inr some)
 
 -- plain text that stays, a candidate and the rest
-joined : (f : ByteBefore → List ℕ → List ℕ) (kept word rest : List ℕ) → HasNoCandidate Outside kept (word ++ rest) → starts_candidate (before_after Outside kept) word ≡ true → list_all is_run_byte word ≡ true → StartsOutsideRun rest
-    → rewritten_by f zero Outside (kept ++ (word ++ rest)) ≡ kept ++ (f (before_after Outside kept) word ++ rewritten_by f zero Outside rest)
+joined : (f : List ℕ → List ℕ) (kept word rest : List ℕ) → HasNoCandidate Outside kept (word ++ rest) → starts_candidate (before_after Outside kept) word ≡ true → list_all is_run_byte word ≡ true → StartsOutsideRun rest
+    → rewritten_by f zero Outside (kept ++ (word ++ rest)) ≡ kept ++ (f word ++ rewritten_by f zero Outside rest)
 joined f kept word rest none some all stop =
     let before = before_after Outside kept in
     rewritten_split f Outside kept (word ++ rest) (cuts_plain Outside kept (word ++ rest) none)
     ∙ ap (λ l. l ++ rewritten_by f zero before (word ++ rest)) (rewritten_plain f Outside kept (word ++ rest) none)
     ∙ ap (λ l. kept ++ l) (rewritten_split f before word rest (λ p c e l a b. stop)
     ∙ ap (λ l. l ++ rewritten_by f zero (before_after before word) rest) (rewritten_candidate f before word some all)
-    ∙ ap (λ l. f before word ++ l) (rewritten_outside f (before_after before word) Outside rest stop))
+    ∙ ap (λ l. f word ++ l) (rewritten_outside f (before_after before word) Outside rest stop))
 
 run_begins : (run rest : List ℕ) → IsRun run rest → starts_run (run ++ rest) ≡ true
 run_begins run rest is = begins_more run rest is.begins
 
 -- after other text than a single `_`
-joined_run : (f : ByteBefore → List ℕ → List ℕ) (plain run rest : List ℕ) → HasNoStart plain → IsRun run rest → (EndsSingle Outside plain → ⊥)
-    → rewritten_by f zero Outside (plain ++ (run ++ rest)) ≡ plain ++ (f (before_after Outside plain) run ++ rewritten_by f zero Outside rest)
+joined_run : (f : List ℕ → List ℕ) (plain run rest : List ℕ) → HasNoStart plain → IsRun run rest → (EndsSingle Outside plain → ⊥)
+    → rewritten_by f zero Outside (plain ++ (run ++ rest)) ≡ plain ++ (f run ++ rewritten_by f zero Outside rest)
 joined_run f plain run rest none is not =
     joined f plain run rest (plain_of Outside plain (run ++ rest) (none_before plain (run ++ rest) none (run_begins run rest is)) (λ w. absurd (not w)))
     (run_candidate (before_after Outside plain) run is.begins) is.all is.longest
 
 -- after a single `_`
-joined_single : (f : ByteBefore → List ℕ → List ℕ) (kept run rest : List ℕ) → HasNoStart (kept ++ codes "_") → IsRun run rest → before_after Outside kept ≡ Outside
-    → rewritten_by f zero Outside ((kept ++ codes "_") ++ (run ++ rest)) ≡ kept ++ (f Outside (codes "_" ++ run) ++ rewritten_by f zero Outside rest)
+joined_single : (f : List ℕ → List ℕ) (kept run rest : List ℕ) → HasNoStart (kept ++ codes "_") → IsRun run rest → before_after Outside kept ≡ Outside
+    → rewritten_by f zero Outside ((kept ++ codes "_") ++ (run ++ rest)) ≡ kept ++ (f (codes "_" ++ run) ++ rewritten_by f zero Outside rest)
 joined_single f kept run rest none is out =
     let word : List ℕ = codes "_" ++ run in
     let whole : (kept ++ codes "_") ++ (run ++ rest) ≡ kept ++ (word ++ rest) = append_assoc kept (codes "_") (run ++ rest) in
@@ -165,36 +116,72 @@ joined_single f kept run rest none is out =
     let some : starts_candidate (before_after Outside kept) word ≡ true = candidate_of (before_after Outside kept) word (inr (out, run, refl, is.begins)) in
     ap (rewritten_by f zero Outside) whole
     ∙ joined f kept word rest (plain_of Outside kept (word ++ rest) (λ k lt. clear k (omega (arith, lt, longer))) (λ w. here)) some is.all is.longest
-    ∙ ap (λ (b : ByteBefore). kept ++ (f b word ++ rewritten_by f zero Outside rest)) out
 
 -- The relation determines the text.
 
-other_replaced : (format : Format) (before : ByteBefore) (run : List ℕ) → (before ≡ Alphanumeric → ⊥) → replacement_after format before run ≡ replacement_in format run
-other_replaced format Outside run not = refl
-other_replaced format Alphanumeric run not = absurd (not refl)
-other_replaced format Mark run not = refl
+-- a run with and without a `_` before it stays if it begins with `_RC`
+run_stays : (run : List ℕ) → starts_run run ≡ true → stays run ≡ names_crate run
+run_stays [] some = refl
+run_stays (c ∷ []) some = at (eqb 95 c)
+  where
+    at : (a : Bool) → ((a && false) || (a && false)) ≡ (a && false)
+    at true = refl
+    at false = refl
+run_stays (c ∷ d ∷ s) some = at (eqb 95 c) (eqb 95 d) refl
+  where
+    second : d ≡ 95 → ⊥
+    second e = none (eqb 95 c) (ap (λ n. starts_run (c ∷ n ∷ s)) (sym e) ∙ some)
+      where
+        none : (a : Bool) → ((a && false) || (a && false)) ≡ true → ⊥
+        none true h = true≢false (sym h)
+        none false h = true≢false (sym h)
+
+    or_nothing : (a : Bool) → (a || false) ≡ a
+    or_nothing true = refl
+    or_nothing false = refl
+
+    at : (a b : Bool) → eqb 95 d ≡ b → ((a && starts_with nat_eq (d ∷ s) (codes "RC")) || (a && (b && starts_with nat_eq s (codes "RC")))) ≡ (a && starts_with nat_eq (d ∷ s) (codes "RC"))
+    at true true e = absurd (second (sym (eqb-true 95 d e)))
+    at true false e = or_nothing (starts_with nat_eq (d ∷ s) (codes "RC"))
+    at false b e = refl
+
+underscored_stays : (run : List ℕ) → starts_run run ≡ true → stays (codes "_" ++ run) ≡ names_crate run
+underscored_stays [] some = refl
+underscored_stays (c ∷ s) some =
+    ap (λ n. (eqb 82 n && starts_with nat_eq s (codes "C")) || names_crate (c ∷ s)) (first_of_candidate Outside (c ∷ s) (run_candidate Outside (c ∷ s) some))
+
+kept_of : (format : Format) (word : List ℕ) → stays word ≡ true → replacement_of format word ≡ word
+kept_of format word is = ap (λ b. cond b word (replacement_in format word)) is
+
+replaced_of : (format : Format) (word : List ℕ) → stays word ≡ false → replacement_of format word ≡ replacement_in format word
+replaced_of format word not = ap (λ b. cond b word (replacement_in format word)) not
 
 pub plain_all : (format : Format) (text : List ℕ) → HasNoStart text → rewritten_in format text ≡ text
-plain_all format text none = rewritten_all (replacement_after format) text (λ k lt. none (take k text) (drop k text) (sym (take-append-drop k text)))
+plain_all format text none = rewritten_all (replacement_of format) text (λ k lt. none (take k text) (drop k text) (sym (take-append-drop k text)))
 
 -- one run, replaced
 one_only : (format : Format) (plain run rest kept text : List ℕ) → HasNoStart plain → IsRun run rest → IsReplacementAfter format plain run kept text
     → rewritten_in format (plain ++ (run ++ rest)) ≡ kept ++ (text ++ rewritten_in format rest)
-one_only format plain run rest kept text none is (inl (ends, same, stays)) =
-    let f = replacement_after format in
-    let last : before_after Outside plain ≡ Alphanumeric = before_alphanumeric plain ends in
-    joined_run f plain run rest none is (λ w. not_both plain w last)
-    ∙ ap (λ (b : ByteBefore). plain ++ (f b run ++ rewritten_in format rest)) last
-    ∙ ap (λ l. l ++ (run ++ rewritten_in format rest)) (sym same) ∙ ap (λ l. kept ++ (l ++ rewritten_in format rest)) (sym stays)
-one_only format plain run rest kept text none is (inr (inl (whole, ends, by))) =
-    let f = replacement_after format in
+one_only format plain run rest kept text none is (inl (named, same, alike)) = at (is_single plain)
+  where
+    at : EndsSingle Outside plain ⊎ (EndsSingle Outside plain → ⊥) → rewritten_in format (plain ++ (run ++ rest)) ≡ kept ++ (text ++ rewritten_in format rest)
+    at (inl (s, e, out)) =
+        ap (λ l. rewritten_in format (l ++ (run ++ rest))) e
+        ∙ joined_single (replacement_of format) s run rest (subst HasNoStart e none) is out
+        ∙ ap (λ l. s ++ (l ++ rewritten_in format rest)) (kept_of format (codes "_" ++ run) (underscored_stays run is.begins ∙ named))
+        ∙ sym (append_assoc s (codes "_") (run ++ rewritten_in format rest)) ∙ ap (λ l. l ++ (run ++ rewritten_in format rest)) (sym (same ∙ e))
+        ∙ ap (λ l. kept ++ (l ++ rewritten_in format rest)) (sym alike)
+    at (inr not) =
+        joined_run (replacement_of format) plain run rest none is not
+        ∙ ap (λ l. plain ++ (l ++ rewritten_in format rest)) (kept_of format run (run_stays run is.begins ∙ named))
+        ∙ ap (λ l. l ++ (run ++ rewritten_in format rest)) (sym same) ∙ ap (λ l. kept ++ (l ++ rewritten_in format rest)) (sym alike)
+one_only format plain run rest kept text none is (inr (inl (other, whole, ends, by))) =
     ap (λ l. rewritten_in format (l ++ (run ++ rest))) whole
-    ∙ joined_single f kept run rest (subst HasNoStart whole none) is (before_outside kept ends)
-    ∙ ap (λ l. kept ++ (l ++ rewritten_in format rest)) (sym (stands format (codes "_" ++ run) text by))
-one_only format plain run rest kept text none is (inr (inr (not, single, same, by))) =
-    let f = replacement_after format in
-    joined_run f plain run rest none is (λ w. single w.0 w.1 (outside_before w.0 w.2))
-    ∙ ap (λ l. plain ++ (l ++ rewritten_in format rest)) (other_replaced format (before_after Outside plain) run (λ e. not (alphanumeric_before plain e)))
+    ∙ joined_single (replacement_of format) kept run rest (subst HasNoStart whole none) is (before_outside kept ends)
+    ∙ ap (λ l. kept ++ (l ++ rewritten_in format rest)) (replaced_of format (codes "_" ++ run) (underscored_stays run is.begins ∙ other) ∙ sym (stands format (codes "_" ++ run) text by))
+one_only format plain run rest kept text none is (inr (inr (other, single, same, by))) =
+    joined_run (replacement_of format) plain run rest none is (λ w. single w.0 w.1 (outside_before w.0 w.2))
+    ∙ ap (λ l. plain ++ (l ++ rewritten_in format rest)) (replaced_of format run (run_stays run is.begins ∙ other))
     ∙ ap (λ l. l ++ (replacement_in format run ++ rewritten_in format rest)) (sym same) ∙ ap (λ l. kept ++ (l ++ rewritten_in format rest)) (sym (stands format run text by))
 
 only : (format : Format) (parts : List (List ℕ × List ℕ)) (text out : List ℕ) → AreRewritten format parts text out → out ≡ rewritten_in format text
@@ -238,19 +225,13 @@ divide zero (c ∷ s) = elim (cases (starts_run (c ∷ s))) [
 
 -- the replacement of one run
 chosen : (format : Format) (plain run : List ℕ) → (kept : List ℕ) × (text : List ℕ) × IsReplacementAfter format plain run kept text
-chosen format plain run = at (is_single plain) (is_letter (before_after Outside plain))
+chosen format plain run = at (cases (names_crate run)) (is_single plain)
   where
-    is_letter : (b : ByteBefore) → (b ≡ Alphanumeric) ⊎ (b ≡ Alphanumeric → ⊥)
-    is_letter Outside = inr outside_is_not
-    is_letter Alphanumeric = inl refl
-    is_letter Mark = inr mark_is_not
-
-    at : EndsSingle Outside plain ⊎ (EndsSingle Outside plain → ⊥) → (before_after Outside plain ≡ Alphanumeric) ⊎ (before_after Outside plain ≡ Alphanumeric → ⊥)
+    at : (names_crate run ≡ true) ⊎ (names_crate run ≡ false) → EndsSingle Outside plain ⊎ (EndsSingle Outside plain → ⊥)
         → (kept : List ℕ) × (text : List ℕ) × IsReplacementAfter format plain run kept text
-    at (inl (s, e, out)) l = (s, replacement_in format (codes "_" ++ run), inr (inl (e, outside_before s out, replaced format (codes "_" ++ run))))
-    at (inr not) (inl is) = (plain, run, inl (alphanumeric_before plain is, refl, refl))
-    at (inr not) (inr other) =
-        (plain, replacement_in format run, inr (inr (λ w. other (before_alphanumeric plain w), λ s e w. not (s, e, before_outside s w), refl, replaced format run)))
+    at (inl named) o = (plain, run, inl (named, refl, refl))
+    at (inr other) (inl (s, e, out)) = (s, replacement_in format (codes "_" ++ run), inr (inl (other, e, outside_before s out, replaced format (codes "_" ++ run))))
+    at (inr other) (inr not) = (plain, replacement_in format run, inr (inr (other, λ s e w. not (s, e, before_outside s w), refl, replaced format run)))
 
 built : (format : Format) (parts : List (List ℕ × List ℕ)) (text : List ℕ) → IsDivided parts text → AreRewritten format parts text (rewritten_in format text)
 built format [] text none = (none, plain_all format text none)
@@ -278,7 +259,7 @@ ended prefix rest c other = λ plain word e some all begins. absurd (elim (seam 
     first [] word some all e = true≢false (sym all ∙ ap (list_all is_run_byte) (sym e) ∙ ap (λ b. b && true) other)
     first (d ∷ y) word some all e = omega (arith, ap length e, length-append y word, some)
 
-pub divided_anew : (f : ByteBefore → List ℕ → List ℕ) (prefix rest : List ℕ) (c : ℕ) → is_run_byte c ≡ false
+pub divided_anew : (f : List ℕ → List ℕ) (prefix rest : List ℕ) (c : ℕ) → is_run_byte c ≡ false
     → rewritten_by f zero Outside (prefix ++ c ∷ rest) ≡ rewritten_by f zero Outside (prefix ++ c ∷ []) ++ rewritten_by f zero Outside rest
 divided_anew f prefix rest c other =
     ap (rewritten_by f zero Outside) (sym (append_assoc prefix (c ∷ []) rest))
@@ -289,8 +270,8 @@ divided_anew f prefix rest c other =
 pub rewritten_lines : (format : Format) (text : List ℕ) → rewritten_in format text ≡ flat_map (rewritten_in format) (lines text)
 rewritten_lines format text = ap (rewritten_in format) (sym (lines_join text)) ∙ each (lines text) (only_lines text).are
   where
-    f : ByteBefore → List ℕ → List ℕ
-    f = replacement_after format
+    f : List ℕ → List ℕ
+    f = replacement_of format
 
     each : (parts : List (List ℕ)) → AreLines parts → rewritten_in format (concat parts) ≡ flat_map (rewritten_in format) parts
     each [] are = rewritten_nothing f Outside zero
@@ -304,26 +285,28 @@ rewritten_lines format text = ap (rewritten_in format) (sym (lines_join text)) �
         ∙ ap (λ l. rewritten_in format line ++ l) (each (next ∷ rest) are.1)
 
 -- they have as many line feeds as before
-line_feeds-after : (format : Format) (before : ByteBefore) (run : List ℕ) → line_feeds run ≡ 0 → line_feeds (replacement_after format before run) ≡ 0
-line_feeds-after format Outside run none = line_feeds-replacement_in format run none
-line_feeds-after format Alphanumeric run none = none
-line_feeds-after format Mark run none = line_feeds-replacement_in format run none
+line_feeds-candidate : (format : Format) (run : List ℕ) → line_feeds run ≡ 0 → line_feeds (replacement_of format run) ≡ 0
+line_feeds-candidate format run none = at (stays run)
+  where
+    at : (b : Bool) → line_feeds (cond b run (replacement_in format run)) ≡ 0
+    at true = none
+    at false = line_feeds-replacement_in format run none
 
-line_feeds-from : (format : Format) (skip : ℕ) (before : ByteBefore) (s : List ℕ) → line_feeds (rewritten_by (replacement_after format) skip before s) ≡ line_feeds (drop skip s)
+line_feeds-from : (format : Format) (skip : ℕ) (before : ByteBefore) (s : List ℕ) → line_feeds (rewritten_by (replacement_of format) skip before s) ≡ line_feeds (drop skip s)
 unfolding rewritten_by
 line_feeds-from format zero before [] = refl
 line_feeds-from format (suc skip) before [] = refl
 line_feeds-from format (suc skip) before (c ∷ s) = line_feeds-from format skip (before_of c) s
 line_feeds-from format zero before (c ∷ s) = elim (cases (starts_candidate before (c ∷ s))) [
   | inl some ↦
-      let f = replacement_after format in
+      let f = replacement_of format in
       let run = c ∷ take_while is_run_byte s in
       let n = prefix_len is_run_byte s in
       let clean : line_feeds run ≡ 0 = line_feeds-run run (ap (λ b. b && list_all is_run_byte (take_while is_run_byte s)) (ap is_run_byte (first_of_candidate before (c ∷ s) some)) ∙ all_prefix s) in
       let whole : line_feeds (c ∷ s) ≡ line_feeds run + line_feeds (drop n s) = ap (λ l. line_feeds (c ∷ l)) (sym (take-append-drop n s)) ∙ line_feeds-append run (drop n s) in
-      ap (λ b. line_feeds (candidate_turn f before c s b)) some ∙ line_feeds-append (f before run) (rewritten_by f n (before_of c) s)
-      ∙ omega (arith, whole, clean, line_feeds-after format before run clean, line_feeds-from format n (before_of c) s)
-  | inr none ↦ ap (λ b. line_feeds (candidate_turn (replacement_after format) before c s b)) none ∙ omega (arith, line_feeds-from format zero (before_of c) s)
+      ap (λ b. line_feeds (candidate_turn f before c s b)) some ∙ line_feeds-append (f run) (rewritten_by f n (before_of c) s)
+      ∙ omega (arith, whole, clean, line_feeds-candidate format run clean, line_feeds-from format n (before_of c) s)
+  | inr none ↦ ap (λ b. line_feeds (candidate_turn (replacement_of format) before c s b)) none ∙ omega (arith, line_feeds-from format zero (before_of c) s)
 ]
 
 pub line_feeds-rewritten : (format : Format) (text : List ℕ) → line_feeds (rewritten_in format text) ≡ line_feeds text

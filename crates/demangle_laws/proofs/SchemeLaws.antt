@@ -3,7 +3,8 @@ use Rattle.std.proofs.Common.{◌≡◌, ◌⊎◌, inl, inr, ℕ, true, List, [
 use Rattle.std.specs.Option.{option_map_or}
 use Rattle.demangle_sink.specs.Cut.{cut, kept}
 use Rattle.demangle_legacy.specs.Legacy.{IsLegacy, IsLegacyPrefix}
-use Rattle.demangle_value.specs.Shape.{LimitedForm, path_texts, legacy_pieces}
+use Rattle.demangle_legacy.specs.Unescaped.{legacy_pieces}
+use Rattle.demangle_value.specs.Shape.{LimitedForm, path_pieces}
 use Rattle.demangle_value.specs.Stripped.{is_allowed}
 use Rattle.demangle_value.specs.Filtered.{starts_run}
 use Rattle.demangle_value.specs.Symbols.{IsSymbol, form_in, limit_in, pieces_in, handed_in, kept_in}
@@ -20,32 +21,32 @@ kept_by : (text : List ℕ) (format : Format) (read : List (List ℕ) × List �
 kept_by text format read e = ap (λ o. option_map_or (λ (r : List (List ℕ) × List ℕ). kept r.0 (limit_in format text)) o 0) e
 
 pieces_spelled : (form : LimitedForm) (text : List ℕ) (elements : List (List ℕ)) (suffix : List ℕ) → IsLegacy text elements suffix → is_allowed suffix ≡ true
-    → pieces_in form text ≡ Some (legacy_pieces form elements, suffix)
+    → pieces_in form text ≡ Some (legacy_pieces form.plain elements, suffix)
 pieces_spelled form text elements suffix is allowed = pieces-legacy form text elements suffix (legacy_spelled text elements suffix is) allowed
 
 pieces_rendered : (form : LimitedForm) (text inner suffix : List ℕ) → IsV0 text inner suffix → is_allowed suffix ≡ true
-    → pieces_in form text ≡ Some (path_texts inner form, suffix)
+    → pieces_in form text ≡ Some (path_pieces inner form, suffix)
 pieces_rendered form text inner suffix is allowed = pieces-v0 form text inner suffix (v0_is_read text inner suffix is) allowed
 
 pub legacy-handed : (text : List ℕ) (elements : List (List ℕ)) (suffix : List ℕ) (format : Format) → IsLegacy text elements suffix → is_allowed suffix ≡ true
-    → handed_in text format ≡ cut (legacy_pieces (form_in format text) elements) (limit_in format text) ++ suffix ∷ []
+    → handed_in text format ≡ cut (legacy_pieces format.form elements) (limit_in format text) ++ suffix ∷ []
 legacy-handed text elements suffix format is allowed =
-    handed_of text format (legacy_pieces (form_in format text) elements, suffix) (pieces_spelled (form_in format text) text elements suffix is allowed)
+    handed_of text format (legacy_pieces format.form elements, suffix) (pieces_spelled (form_in format text) text elements suffix is allowed)
 
 pub legacy-kept : (text : List ℕ) (elements : List (List ℕ)) (suffix : List ℕ) (format : Format) → IsLegacy text elements suffix → is_allowed suffix ≡ true
-    → kept_in text format ≡ kept (legacy_pieces (form_in format text) elements) (limit_in format text)
+    → kept_in text format ≡ kept (legacy_pieces format.form elements) (limit_in format text)
 legacy-kept text elements suffix format is allowed =
-    kept_by text format (legacy_pieces (form_in format text) elements, suffix) (pieces_spelled (form_in format text) text elements suffix is allowed)
+    kept_by text format (legacy_pieces format.form elements, suffix) (pieces_spelled (form_in format text) text elements suffix is allowed)
 
 pub v0-handed : (text inner suffix : List ℕ) (format : Format) → IsV0 text inner suffix → is_allowed suffix ≡ true
-    → handed_in text format ≡ cut (path_texts inner (form_in format text)) (limit_in format text) ++ suffix ∷ []
+    → handed_in text format ≡ cut (path_pieces inner (form_in format text)) (limit_in format text) ++ suffix ∷ []
 v0-handed text inner suffix format is allowed =
-    handed_of text format (path_texts inner (form_in format text), suffix) (pieces_rendered (form_in format text) text inner suffix is allowed)
+    handed_of text format (path_pieces inner (form_in format text), suffix) (pieces_rendered (form_in format text) text inner suffix is allowed)
 
 pub v0-kept : (text inner suffix : List ℕ) (format : Format) → IsV0 text inner suffix → is_allowed suffix ≡ true
-    → kept_in text format ≡ kept (path_texts inner (form_in format text)) (limit_in format text)
+    → kept_in text format ≡ kept (path_pieces inner (form_in format text)) (limit_in format text)
 v0-kept text inner suffix format is allowed =
-    kept_by text format (path_texts inner (form_in format text), suffix) (pieces_rendered (form_in format text) text inner suffix is allowed)
+    kept_by text format (path_pieces inner (form_in format text), suffix) (pieces_rendered (form_in format text) text inner suffix is allowed)
 
 pub one-scheme : (text : List ℕ) (elements : List (List ℕ)) (inner suffix other : List ℕ) → IsLegacy text elements suffix → IsV0 text inner other → ⊥
 one-scheme text elements inner suffix other legacy v0 =

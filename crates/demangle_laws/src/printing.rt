@@ -3,12 +3,13 @@ ghost use Rattle.std.specs.Prelude.{◌≡◌, ◌⊎◌, ℕ, ◌+◌, ◌≤�
 ghost use Rattle.std.specs.List.{concat, list_all};
 ghost use Rattle.demangle_sink.specs.Array.{text_of};
 ghost use Rattle.demangle_sink.specs.Cut.{size};
-ghost use Rattle.demangle_value.specs.Shape.{form, legacy_pieces};
 ghost use Rattle.demangle_value.specs.Hashes.{OmitsHash};
 ghost use Rattle.demangle_legacy.specs.Legacy.{IsLegacy};
+ghost use Rattle.demangle_legacy.specs.Unescaped.{legacy_pieces};
 ghost use Rattle.demangle_value.specs.Stripped.{stripped, is_thin_lto, is_allowed, IsCut};
 ghost use Rattle.demangle_value.specs.Limits.{most_bytes};
 ghost use Rattle.demangle_value.specs.Symbols.{IsSymbol, handed, kept_of, pieces_of, printed};
+ghost use Rattle.demangle_v0_grammar.specs.Reading.{form};
 
 use demangle_sink::{ArraySink, SinkRefused, TextSink};
 use rustc_demangle::Demangle;
