@@ -6,7 +6,7 @@ ghost use Rattle.std.specs.Prelude.{◌≡◌, ◌+◌, ◌<◌, ◌≤◌, ℕ,
 ghost use Prim.Native.Nat.{min};
 ghost use Rattle.std.specs.List.{concat};
 ghost use Rattle.rustc_demangle.specs.Cut.{size};
-ghost use Rattle.rustc_demangle.specs.LinearLooks.{LooksLinear};
+ghost use Rattle.rustc_demangle.specs.LinearLooks.{LooksGrow, LooksLinear};
 ghost use Rattle.rustc_demangle.specs.Rewritten.{rewritten_in};
 ghost use Rattle.rustc_demangle.specs.Slice.{overlay};
 ghost use Rattle.demangle_value.specs.Stripped.{stripped};
@@ -204,6 +204,7 @@ pub fn write_text_counted(
         length rewritten < usize.MAX →
         out.new ≡ overlay out.old (c_string (length out.old) rewritten) }
     ensures past { usize.MAX ≤ length (rewritten_in format text.now) → result ≡ usize.MAX }
+    ensures grows { LooksGrow looks.old looks.new }
     ensures linear { LooksLinear format (length text.now) looks.old looks.new }
 {
     let Some(len) = demangle_slice_counted(text, out, format, looks) else {

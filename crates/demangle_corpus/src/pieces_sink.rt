@@ -79,8 +79,4 @@ impl TextSink for PiecesSink {
 
     ghost took_joined = { λ s t u xs ys h k.
         k ∙ (ap (λ z. z ++ ys) h ∙ append_assoc (concat (taken_pieces s)) xs ys) };
-
-    ghost took_held = { λ s t xs h. tt };
-
-    ghost took_split = { λ s u xs ys c a h. cc c };
 }

@@ -1,5 +1,5 @@
 //! The demangler as a WebAssembly module for web pages. It exports the calls of the library for C
-//! that a page needs, and three calls that find the symbols of a text. The paths of single symbols
+//! that a page needs, and four calls that find the symbols of a text. The paths of single symbols
 //! have the limit of the bytes that are read again, too.
 #![tactic(auto)]
 
@@ -8,8 +8,8 @@ ghost use Prim.Native.Nat.{min};
 ghost use Rattle.std.specs.List.{prefix_len};
 ghost use Rattle.rustc_demangle.specs.Cut.{size};
 ghost use Rattle.demangle_value.specs.Filtered.{is_run_byte, starts_run};
-ghost use Rattle.rustc_demangle.specs.Rewritten.{before_after, rewritten_in, IsPlainLen};
-ghost use Rattle.rustc_demangle.specs.declared.byte_before.ByteBefore.TheVariants.{Outside, Alphanumeric};
+ghost use Rattle.rustc_demangle.specs.Rewritten.{rewritten_in, stays, IsPlainLen};
+ghost use Rattle.rustc_demangle.specs.declared.byte_before.ByteBefore.TheVariants.{Outside};
 ghost use Rattle.rustc_demangle.specs.Slice.{overlay};
 ghost use Rattle.demangle_c_string.specs.CString.{IsRustSymbol, path_in_text, c_string, texts};
 
@@ -20,7 +20,7 @@ use demangle_c_string::{
     MAX_SIZE, symbol_of, write_folded_path_in_text, write_folded_text, write_path_in_text,
     write_text,
 };
-use rustc_demangle::{plain_len, run_len, run_start};
+use rustc_demangle::{plain_len, run_len, run_start, stays};
 
 /// Returns `true` if the bytes are a Rust symbol, after a suffix of ThinLTO is removed.
 ///
@@ -87,9 +87,9 @@ pub extern "C" fn kodliwe_demangle_folded(
 /// the number of bytes of that text and the 0.
 ///
 /// A candidate symbol starts at `_ZN` or `_R`. It ends before the next byte that is not an ASCII
-/// letter, a digit, `$`, `.` or `_`. It stays directly after an ASCII letter or digit. A path also
-/// replaces a single `_` before its symbol, if that `_` is the first byte or follows a byte that no
-/// symbol may have. All other bytes stay unchanged.
+/// letter, a digit, `$`, `.` or `_`. It stays if it begins with `_RC`. A path also replaces a single
+/// `_` before its symbol, if that `_` is the first byte or follows a byte that no symbol may have.
+/// All other bytes stay unchanged.
 ///
 /// Each path is cut at `limit` bytes, and at 1,000,000 at most. If `limit` is `usize::MAX`, none is
 /// given: then a symbol of n bytes is cut at 999 n - 20 bytes, and at 1,000,000 at most. So the text
@@ -162,18 +162,21 @@ pub extern "C" fn kodliwe_run_len(text: &[u8]) -> usize
 }
 
 /// Returns the length of the plain text before a run, without a single `_` at its end, which the
-/// path of the run replaces too. Returns `usize::MAX` if the text ends with an ASCII letter or
-/// digit. Then the run is not replaced.
+/// path of the run replaces too.
 ///
 /// The plain text starts where the whole text does, or after the run before it.
 #[unsafe(no_mangle)]
 pub extern "C" fn kodliwe_plain_len(plain: &[u8]) -> usize
-    ensures replaced { (before_after Outside plain.now ≡ Alphanumeric → ⊥) →
-        IsPlainLen Outside plain.now result }
-    ensures kept { before_after Outside plain.now ≡ Alphanumeric → result ≡ usize.MAX }
+    ensures { IsPlainLen Outside plain.now result }
 {
-    match plain_len(plain) {
-        Some(len) => len,
-        None => usize::MAX,
-    }
+    plain_len(plain)
+}
+
+/// Returns `true` if a candidate stays because its run begins with `_RC`. A candidate is a run, or a
+/// run with the single `_` before it.
+#[unsafe(no_mangle)]
+pub extern "C" fn kodliwe_stays(candidate: &[u8]) -> bool
+    ensures { result ≡ stays candidate.now }
+{
+    stays(candidate)
 }

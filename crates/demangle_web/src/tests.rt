@@ -2,7 +2,7 @@
 use crate::{
     kodliwe_demangle_folded, kodliwe_demangle_limited, kodliwe_demangle_text,
     kodliwe_demangle_text_folded, kodliwe_is_symbol, kodliwe_plain_len, kodliwe_run_len,
-    kodliwe_run_start,
+    kodliwe_run_start, kodliwe_stays,
 };
 
 #[test]
@@ -63,7 +63,7 @@ fn a_text_keeps_what_is_no_symbol(rt: HostRuntime) {
 #[test]
 fn the_bytes_before_a_symbol_of_a_text(rt: HostRuntime) {
     let mut out = [9; 40];
-    let text = b"SW_RC0.zip .text._ZN3fooE __ZN3fooE a__RC1a";
+    let text = b"SW_RC0.zip .text._ZN3fooE __ZN3fooE a__ZN1aE";
     assert_eq!(rt; kodliwe_demangle_text(text, &mut out, false, 100), 29);
     assert!(rt; out.starts_with(b"SW_RC0.zip .text.foo foo a_a\0\x09"));
 }
@@ -116,9 +116,27 @@ fn plain_text_before_a_run_is_measured(rt: HostRuntime) {
         (b"a_", 2),
         (b"._", 2),
         (b"a-", 2),
-        (b" a", usize::MAX),
+        (b" a", 2),
     ];
     for (plain, wanted) in rows {
         assert_eq!(rt; kodliwe_plain_len(plain), wanted, "of {plain:?}");
+    }
+}
+
+#[test]
+fn runs_that_begin_with_a_crate_stay(rt: HostRuntime) {
+    let rows: [(&[u8], bool); 9] = [
+        (b"_RC0", true),
+        (b"__RC0", true),
+        (b"_RC", true),
+        (b"___RC0", false),
+        (b"_RNvC1a1b", false),
+        (b"__RNvC1a1b", false),
+        (b"_ZNC", false),
+        (b"_R", false),
+        (b"", false),
+    ];
+    for (candidate, wanted) in rows {
+        assert_eq!(rt; kodliwe_stays(candidate), wanted, "of {candidate:?}");
     }
 }
