@@ -1,15 +1,13 @@
--- The looks that the program makes at its inputs and arguments.
-use Rattle.std.specs.Prelude.{◌≡◌, ℕ, ◌+◌, ◌*◌, ◌≤◌, List, [], ◌∷◌, length}
+-- The looks that the program makes at its inputs and arguments, and the size of its output.
+use Rattle.std.specs.Prelude.{◌≡◌, ℕ, ◌+◌, ◌*◌, ◌≤◌, List, [], ◌∷◌, length, IfSome}
 use Rattle.std.specs.declared.option.Option.{Option}
 use Rattle.demangle_symbol.specs.declared.cursor.looks.RunLooks.{RunLooks}
 use Rattle.rustc_demangle.specs.LinearLooks.{all_looks}
 use Rattle.demangle_value.specs.declared.format.Format.{Format}
 use Rattle.demangle_value.specs.declared.format.RereadLimit.TheVariants as reread
 use Rattle.kodliwe_program.specs.Parts.{PartText, text, argument, Remain}
-
--- none
-abbrev pub no_looks : RunLooks
-no_looks = record { accepting_looks = 0; printing_looks = 0 }
+use Rattle.kodliwe_program.specs.declared.filtering.FilterOutcome.{FilterOutcome}
+use Rattle.kodliwe_program.specs.declared.filtering.FilterOutcome.TheVariants.{Complete, Closed, ReadFailed, WriteFailed}
 
 -- the bytes of a part; those of an argument with the line feed after it
 abbrev pub part_len : PartText → ℕ
@@ -27,3 +25,14 @@ LooksAt format n old new = format.reread ≡ reread.Linear → all_looks new ≤
 -- the same for parts, whatever they are
 abbrev pub LooksAtParts : Format → List (Option PartText) → (old new : RunLooks) → Type 0
 LooksAtParts format held old new = (all : List PartText) → Remain held all → LooksAt format (total_len all) old new
+
+-- the writer appended at most so many bytes, if its contents are known
+abbrev pub AppendsAtMost : ℕ → (old new : Option (List ℕ)) → Type 0
+AppendsAtMost n old new = IfSome old (λ before. IfSome new (λ after. length after ≤ length before + n))
+
+-- The writer appended at most 1,000 bytes for each byte of the parts. Nothing is known after an error of the writer.
+abbrev pub OutputWithin : FilterOutcome → List (Option PartText) → (old new : Option (List ℕ)) → Type 0
+OutputWithin Complete held old new = (all : List PartText) → Remain held all → AppendsAtMost (1000 * total_len all) old new
+OutputWithin Closed held old new = Unit {0}
+OutputWithin ReadFailed held old new = (all : List PartText) → Remain held all → AppendsAtMost (1000 * total_len all) old new
+OutputWithin WriteFailed held old new = Unit {0}

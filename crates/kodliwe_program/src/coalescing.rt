@@ -1,6 +1,5 @@
 //! Collects short pieces before they are written.
 ghost use Rattle.std.specs.Prelude.{◌≡◌, [], IsTrue, OnOk};
-ghost use Rattle.std.specs.Io.Buffered.{writer_inner};
 ghost use Rattle.std.specs.Io.KnownBytes.{Appends, Keeps};
 ghost use Rattle.kodliwe_program.specs.Coalescing.{output_contents};
 
@@ -29,13 +28,6 @@ impl<W: Write + Drop> CoalescingOutput<W> {
             buffer,
             fault: None,
         }
-    }
-
-    /// Returns the writer below the buffer.
-    pub fn get_ref(&self) -> &W
-        ensures { result.now ≡ writer_inner self.now.buffer }
-    {
-        self.buffer.get_ref()
     }
 
     /// Writes the held bytes, and continues if a signal interrupts that. Fails if the buffer fails;

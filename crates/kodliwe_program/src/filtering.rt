@@ -7,10 +7,10 @@ ghost use Rattle.rustc_demangle.specs.Rewritten.{rewritten_after, rewritten_in};
 ghost use Rattle.rustc_demangle.specs.ByteStream.{from_start, followed_by, IsWriting, StepFinished, StepFailed, BytesStopped};
 ghost use Rattle.demangle_value.specs.Symbols.{PrintingLooksIn, handed_in};
 ghost use Rattle.kodliwe_program.specs.Filtering.{FlushStepFiltered, IsClosedPipe};
-ghost use Rattle.rustc_demangle.specs.LinearLooks.{LooksLinear, StepPaid};
+ghost use Rattle.rustc_demangle.specs.LinearLooks.{LooksGrow, LooksLinear, StepPaid};
 ghost use Rattle.demangle_value.specs.declared.format.SizeLimit.TheVariants.{Linear};
 ghost use Rattle.kodliwe_program.specs.Parts.{PartText, all_printed, argument_in, part_of, part_in, part_bytes, WroteAll, WrotePrefix, RunStopped};
-ghost use Rattle.kodliwe_program.specs.ProgramLooks.{LooksAt, LooksAtParts, no_looks, part_len, total_len};
+ghost use Rattle.kodliwe_program.specs.ProgramLooks.{LooksAt, LooksAtParts, OutputWithin, part_len, total_len};
 
 use crate::error::{InputError, report};
 use crate::noting::NotingReader;
@@ -20,8 +20,8 @@ use rustc_demangle::{
     demangle_bytes_counted, try_demangle_counted,
 };
 use std::alloc::{Allocator, Global};
-use std::io;
 use std::io::{BufRead, BufReader, ErrorKind, Read, Write};
+use std::{io, mem};
 
 /// The size in bytes of the buffers.
 pub const BUFFER: usize = 65_536;
@@ -135,6 +135,7 @@ fn step<R: BufRead, W: Write, A: Allocator>(
         (R.remaining input.old) (R.remaining input.new)
         (W.contents output.old) (W.contents output.new)) }
     ensures same { symbols.new.memo ≡ symbols.old.memo }
+    ensures grows { LooksGrow symbols.old.looks symbols.new.looks }
     ensures paid { OnOk result (StepPaid symbols.old.memo filter.old filter.new
         (R.remaining input.old) (R.remaining input.new) symbols.old.looks symbols.new.looks) }
     ensures linear { IfSome (R.remaining input.old) (λ left. LooksLinear symbols.old.memo
@@ -166,6 +167,7 @@ fn flush_then_step<R: Read, W: Write, A: Allocator, B: Allocator>(
         (λ text. BytesStopped (rewritten_after symbols.old.memo) fault (followed_by filter.old text)
         (W.contents output.old) (W.contents output.new))) }
     ensures same { symbols.new.memo ≡ symbols.old.memo }
+    ensures grows { LooksGrow symbols.old.looks symbols.new.looks }
     ensures paid { OnOk result (StepPaid symbols.old.memo filter.old filter.new
         (reader_remaining R.remaining input.old) (reader_remaining R.remaining input.new) symbols.old.looks symbols.new.looks) }
     ensures linear { IfSome (reader_remaining R.remaining input.old) (λ left. LooksLinear symbols.old.memo
@@ -191,6 +193,7 @@ fn filter_steps<R: Read, W: Write, A: Allocator, B: Allocator>(
         BytesStopped (rewritten_after symbols.old.memo) fault (from_start text)
         (W.contents output.old) (W.contents output.new))) }
     ensures same { symbols.new.memo ≡ symbols.old.memo }
+    ensures grows { LooksGrow symbols.old.looks symbols.new.looks }
     ensures linear { IfSome (reader_remaining R.remaining input.old) (λ text. LooksLinear symbols.old.memo
         (length text) symbols.old.looks symbols.new.looks) }
 {
@@ -216,6 +219,7 @@ fn filter_reader<R: Read + Drop, W: Write>(
         BytesStopped (rewritten_after symbols.old.memo) fault (from_start text)
         (W.contents output.old) (W.contents output.new))) }
     ensures same { symbols.new.memo ≡ symbols.old.memo }
+    ensures grows { LooksGrow symbols.old.looks symbols.new.looks }
     ensures linear { IfSome (R.remaining reader) (λ text. LooksLinear symbols.old.memo
         (length text) symbols.old.looks symbols.new.looks) }
 {
@@ -259,6 +263,7 @@ fn write_argument<W: Write>(
     ensures err { IfErr result (λ fault. BytesStopped (rewritten_after symbols.old.memo) fault
         (from_start argument.now) (W.contents output.old) (W.contents output.new)) }
     ensures same { symbols.new.memo ≡ symbols.old.memo }
+    ensures grows { LooksGrow symbols.old.looks symbols.new.looks }
     ensures linear { LooksAt symbols.old.memo (length argument.now + 1) symbols.old.looks
         symbols.new.looks }
 {
@@ -286,6 +291,7 @@ fn write_line<W: Write>(
     ensures err { IfErr result (λ fault. BytesStopped (rewritten_after symbols.old.memo) fault
         (from_start argument.now) (W.contents output.old) (W.contents output.new)) }
     ensures same { symbols.new.memo ≡ symbols.old.memo }
+    ensures grows { LooksGrow symbols.old.looks symbols.new.looks }
     ensures linear { LooksAt symbols.old.memo (length argument.now + 1) symbols.old.looks
         symbols.new.looks }
 {
@@ -315,6 +321,7 @@ impl<'a, R: Read + Drop> Part<'a, R> {
             (from_start (part_bytes part))
             (W.contents output.old) (W.contents output.new))) }
         ensures same { symbols.new.memo ≡ symbols.old.memo }
+        ensures grows { LooksGrow symbols.old.looks symbols.new.looks }
         ensures linear { IfSome (part_of R.remaining self.entry) (λ part.
             LooksAt settings.format (part_len part) symbols.old.looks symbols.new.looks) }
     {
@@ -336,52 +343,39 @@ impl<'a, R: Read + Drop> Part<'a, R> {
     }
 }
 
-/// What writing parts led to.
-#[derive(Drop)]
-struct Written<'a> {
-    result: Result<(), InputError<'a>>,
-    /// The looks that were made.
-    looks: RunLooks,
-}
-
-/// Writes what each part prints, in order and with one memo, and then flushes the output. Stops at
-/// the first error, and returns it with the name of its input. Also returns the looks that it made.
+/// Writes what each part prints, in order and with one memo, and then flushes the output. Counts its
+/// looks. Stops at the first error, and returns it with the name of its input.
 fn write_parts<'a, R: Read + Drop, W: Write, E: Write>(
     settings: Settings,
     parts: Vec<Part<'a, R>>,
     output: &mut W,
     errors: &mut E,
-) -> Written<'a>
-    ensures ok { OnOk result.result (WroteAll (part_in settings.format)
+    looks: &mut RunLooks,
+) -> Result<(), InputError<'a>>
+    ensures ok { OnOk result (WroteAll (part_in settings.format)
         (map (part_of R.remaining) parts.entry.items)
         (W.contents output.old) (W.contents output.new)) }
-    ensures err { IfErr result.result (λ stop. RunStopped stop.fault settings.format
+    ensures err { IfErr result (λ stop. RunStopped stop.fault settings.format
         (map (part_of R.remaining) parts.entry.items)
         (W.contents output.old) (W.contents output.new)) }
+    ensures grows { LooksGrow looks.old looks.new }
     ensures linear { LooksAtParts settings.format (map (part_of R.remaining) parts.entry.items)
-        no_looks result.looks }
+        looks.old looks.new }
 {
     let mut symbols = Symbols {
         memo: SymbolMemo::with_format(settings.alloc, settings.format),
-        looks: RunLooks::new(),
+        looks: mem::replace(looks, RunLooks::new()),
     };
     for part in parts {
         if let Err(stop) = part.write(settings, output, errors, &mut symbols) {
-            return Written {
-                result: Err(stop),
-                looks: symbols.looks,
-            };
+            *looks = symbols.looks;
+            return Err(stop);
         }
     }
+    *looks = symbols.looks;
     match flush(output) {
-        Ok(()) => Written {
-            result: Ok(()),
-            looks: symbols.looks,
-        },
-        Err(fault) => Written {
-            result: Err(InputError { name: "", fault }),
-            looks: symbols.looks,
-        },
+        Ok(()) => Ok(()),
+        Err(fault) => Err(InputError { name: "", fault }),
     }
 }
 
@@ -405,14 +399,6 @@ fn outcome_of(fault: &StreamFault) -> FilterOutcome
     }
 }
 
-/// What a run of the filter did.
-#[derive(Drop)]
-pub struct FilterRun {
-    pub outcome: FilterOutcome,
-    /// The looks that it made.
-    pub looks: RunLooks,
-}
-
 /// Writes what the parts print, in order: each text filtered on its own, and each argument as a
 /// line. Each path is cut at the limits. Writes a line if an input can't be read, the output can't
 /// be written, or memory can't be allocated. Writes a note on each input that is compressed or
@@ -424,34 +410,35 @@ pub struct FilterRun {
 /// written before is flushed in any case. An error of `errors` is ignored.
 ///
 /// With a linear limit of bytes, the parts print at most 1,000 bytes for each of their own, of which
-/// each argument has a line feed.
+/// each argument has a line feed. On `Complete` and `ReadFailed`, the writer appended no more.
 ///
-/// The looks are returned too. With a linear limit of the bytes that are read again, the looks are at
+/// The looks are counted. With a linear limit of the bytes that are read again, the looks are at
 /// most 23,650 for each byte of the parts, for each outcome.
 pub fn filter_all_counted<R: Read + Drop, W: Write, E: Write>(
     settings: Settings,
     parts: Vec<Part<'_, R>>,
     output: &mut W,
     errors: &mut E,
-) -> FilterRun
-    ensures complete { result.outcome ≡ FilterOutcome.Complete →
+    looks: &mut RunLooks,
+) -> FilterOutcome
+    ensures complete { result ≡ FilterOutcome.Complete →
         WroteAll (part_in settings.format) (map (part_of R.remaining) parts.entry.items)
         (W.contents output.old) (W.contents output.new) }
-    ensures read_failed { result.outcome ≡ FilterOutcome.ReadFailed →
+    ensures read_failed { result ≡ FilterOutcome.ReadFailed →
         WrotePrefix settings.format (map (part_of R.remaining) parts.entry.items)
         (W.contents output.old) (W.contents output.new) }
+    ensures grows { LooksGrow looks.old looks.new }
     ensures linear { LooksAtParts settings.format (map (part_of R.remaining) parts.entry.items)
-        no_looks result.looks }
-    ensures output { settings.format.limit ≡ Linear → (all : List PartText) →
+        looks.old looks.new }
+    ensures prints { settings.format.limit ≡ Linear → (all : List PartText) →
         length (all_printed (part_in settings.format) all) ≤ 1000 * total_len all }
+    ensures output { settings.format.limit ≡ Linear →
+        OutputWithin result (map (part_of R.remaining) parts.entry.items)
+        (W.contents output.old) (W.contents output.new) }
 {
-    let written = write_parts(settings, parts, output, errors);
-    let looks = written.looks;
-    let Err(stop) = written.result else {
-        return FilterRun {
-            outcome: FilterOutcome::Complete,
-            looks,
-        };
+    let written = write_parts(settings, parts, output, errors, looks);
+    let Err(stop) = written else {
+        return FilterOutcome::Complete;
     };
     let outcome = outcome_of(&stop.fault);
     if outcome == FilterOutcome::ReadFailed {
@@ -460,7 +447,7 @@ pub fn filter_all_counted<R: Read + Drop, W: Write, E: Write>(
     if outcome != FilterOutcome::Closed {
         report(settings.alloc, errors, &stop);
     }
-    FilterRun { outcome, looks }
+    outcome
 }
 
 /// Writes what the parts print, as `filter_all_counted` does.
@@ -477,5 +464,5 @@ pub fn filter_all<R: Read + Drop, W: Write, E: Write>(
         (map (part_of R.remaining) parts.entry.items)
         (W.contents output.old) (W.contents output.new) }
 {
-    filter_all_counted(settings, parts, output, errors).outcome
+    filter_all_counted(settings, parts, output, errors, &mut RunLooks::new())
 }

@@ -12,7 +12,7 @@ loop-part-init g c =
       printing_init _ _ _ _ (ap (map (part_of g.R.Read.remaining)) (sym gives.0)),
       omega (arith, same, gives.1),
       c.with_format.ensures,
-      looks_init _ _ _ _ (ap (map (part_of g.R.Read.remaining)) (sym gives.0)) c.new.ensures.accepting c.new.ensures.printing,
+      looks_init _ _ _ _ _ (ap (map (part_of g.R.Read.remaining)) (sym gives.0)) (sym c.replace.ensures.value),
     )
 
 pub loop-part-preserved : goal.loop-part-preserved
@@ -27,7 +27,7 @@ loop-part-preserved g c =
       printing_step _ _ _ _ _ _ _ _ at.invariant.0 held c.in_default.ensures.ok,
       omega (arith, was, gone, short),
       c.write.ensures.same ∙ at.invariant.2,
-      looks_step _ _ _ _ _ _ _ at.invariant.3 held c.write.ensures.linear,
+      looks_step _ _ _ _ _ _ _ _ at.invariant.3 held c.write.ensures.grows c.write.ensures.linear,
     )
 
 pub returns-in-Err-clause-err : goal.returns-in-Err-clause-err
@@ -39,7 +39,7 @@ returns-in-Err-clause-err g c =
 
 pub returns-in-Err-clause-linear : goal.returns-in-Err-clause-linear
 returns-in-Err-clause-linear g c =
-    looks_stop _ _ _ _ _ _ _ c.loop-part.invariant.3 (ap (map (part_of g.R.Read.remaining)) c.in-Some.ensures.steps.0) c.write.ensures.linear
+    looks_stop _ _ _ _ _ _ _ _ c.loop-part.invariant.3 (ap (map (part_of g.R.Read.remaining)) c.in-Some.ensures.steps.0) c.write.ensures.grows c.write.ensures.linear
 
 pub returns-in-Ok-clause-ok : goal.returns-in-Ok-clause-ok
 returns-in-Ok-clause-ok g c =
@@ -52,7 +52,7 @@ returns-in-Ok-clause-ok g c =
     at.invariant.0 held c.flush.ensures.bytes
 
 pub returns-in-Ok-clause-linear : goal.returns-in-Ok-clause-linear
-returns-in-Ok-clause-linear g c = looks_end _ _ _ _ c.loop-part.invariant.3
+returns-in-Ok-clause-linear g c = looks_end _ _ _ _ _ c.loop-part.invariant.3
 
 pub returns-clause-linear : goal.returns-clause-linear
-returns-clause-linear g c = looks_end _ _ _ _ c.loop-part.invariant.3
+returns-clause-linear g c = looks_end _ _ _ _ _ c.loop-part.invariant.3

@@ -13,4 +13,4 @@ invariant-loop-part g l =
     (g.W.Write.contents l.initial.output) (g.W.Write.contents l.output)
     × (into_iter_len l.part-iterator ≡ length (into_iter_items l.part-iterator))
     × (l.symbols.memo ≡ l.fn.settings.format)
-    × LooksLeft l.fn.settings.format (map (part_of g.R.Read.remaining) l.fn.parts.items) (map (part_of g.R.Read.remaining) (into_iter_items l.part-iterator)) l.symbols.looks
+    × LooksLeft l.fn.settings.format (map (part_of g.R.Read.remaining) l.fn.parts.items) (map (part_of g.R.Read.remaining) (into_iter_items l.part-iterator)) l.fn.looks l.symbols.looks
