@@ -171,7 +171,7 @@ fn each_allocation_fails_once(rt: HostRuntime) -> Result<(), Fail> {
     Ok(())
 }
 
-const RUNS: &[u8] = b"\xE9 _RC1a _ZN3fooE _ZN3foo3barE.a_long_suffix_that_wants_more \xE9";
+const RUNS: &[u8] = b"\xE9 _ZN1aE _ZN3fooE _ZN3foo3barE.a_long_suffix_that_wants_more \xE9";
 
 /// The output before each run, and the complete output.
 const WRITTEN: [&[u8]; 4] = [
