@@ -137,6 +137,24 @@ def let_else(items, at):
     return end, f"let {text_of(words[2].items)} ={text_of(items[equals + 1 : last]).rstrip()}?"
 
 
+def returned_error(items, at):
+    """`if let Err(x) = e { return Err(x); }` is `e?;`."""
+    if not items[at].is_name("if") or any(word.is_name("else") for word in solid(items[:at])[-1:]):
+        return None
+    body = next((k for k in range(at, len(items)) if is_group(items[k], "{")), None)
+    words = solid(items[at:body]) if body is not None else []
+    if len(words) < 6 or [word.text for word in words[1:3]] != ["let", "Err"] or not is_group(words[3], "("):
+        return None
+    block, name = solid(items[body].items), text_of(words[3].items).strip()
+    if [word.text for word in block[:2]] != ["return", "Err"] or len(block) != 4 or text_of(block[2].items).strip() != name:
+        return None
+    after = next_solid(items, body)
+    if words[4].text != "=" or not is_chain(words[5:]) or (after < len(items) and items[after].is_name("else")):
+        return None
+    equals = next(k for k in range(at, body) if items[k].is_punct("="))
+    return body + 1, f"{text_of(items[equals + 1 : body]).strip()}?;"
+
+
 def is_chain(words):
     """Returns whether these are a path with calls, fields and indices, to which a `?` applies as a whole."""
     return all(
@@ -225,4 +243,4 @@ def least_and_most(items, at):
     return places[-1] + 1, f".clamp({numbers[0][0].text}, {numbers[1][0].text})"
 
 
-RULES = (let_else, match_of_truth, match_of_option, least_and_most, loop_over_indices)
+RULES = (let_else, returned_error, match_of_truth, match_of_option, least_and_most, loop_over_indices)
