@@ -2,7 +2,8 @@
 //!
 //! Reads lines of a count and a symbol, and writes the counts of each path, the largest first:
 //!
-//!     perf script -F sym | sort | uniq -c | cargo run --example profile
+//!     perf script --no-demangle -F ip,sym | awk '{ print $2 }' | sort | uniq -c |
+//!         cargo run --example profile
 use kodliwe::{FmtSink, Format, demangle};
 use std::collections::HashMap;
 use std::io::{self, BufRead};

@@ -35,7 +35,8 @@
 //! - `std`, which is on by default, adds `WriteSink`. Without it the crate is `no_std`.
 //! - `stream`, which is off by default, adds `demangle_stream`, `demangle_bytes` and `BytesFilter`,
 //!   which filter a reader into a writer. They alone allocate: they buffer one line, or one symbol,
-//!   and `demangle_bytes` remembers the paths of symbols, in at most 5.5 MB.
+//!   and `demangle_bytes` remembers the paths of symbols, in at most 5.5 MB, or 7.6 MB while that
+//!   grows.
 //!
 //! # Where it comes from
 //!

@@ -10,9 +10,10 @@ pub use crate::rustc_demangle::StreamFault;
 
 /// Copies `input` to `output` line by line, with each Rust symbol demangled.
 ///
-/// Symbols are found as by [`demangle_text`](crate::demangle_text). A line is read completely
-/// before any of it is written. Each symbol and each text between two symbols is one write, so pass
-/// a buffered writer if a write is costly.
+/// Symbols are found as by [`demangle_text`](crate::demangle_text): one that begins with `_RC` is
+/// replaced too, and the `_` that macOS writes before a symbol stays. [`demangle_bytes`] has the rule
+/// of `kodliwe`. A line is read completely before any of it is written. Each piece of a symbol and
+/// each text between two symbols is one write, so pass a buffered writer if a write is costly.
 ///
 /// # Errors
 ///
@@ -51,8 +52,8 @@ pub fn demangle_stream_named<R: BufRead, W: Write>(
 /// Copies any bytes from `input` to `output`, with each Rust symbol demangled.
 ///
 /// It does not wait for the end of a line. It writes what the reader makes available at once,
-/// except a symbol that may continue. A symbol directly after an ASCII letter or digit stays, as in
-/// `v1.0_RC0`. A path also replaces the single `_` that macOS writes before a symbol.
+/// except a symbol that may continue. A symbol that begins with `_RC` stays, as in `v1.0_RC0`. A
+/// path also replaces the single `_` that macOS writes before a symbol.
 ///
 /// # Errors
 ///
@@ -102,8 +103,9 @@ pub fn demangle_bytes_formatted<R: BufRead, W: Write>(
 
 /// A filter of any bytes that runs step by step, for readers that pause.
 ///
-/// It remembers the paths of symbols, in at most 5.5 MB, so a repeated symbol costs little. It
-/// allocates nothing for that before a symbol is long enough to be remembered.
+/// It remembers the paths of symbols, in at most 5.5 MB, or 7.6 MB while that grows, so a repeated
+/// symbol costs little. It allocates nothing for that before a symbol is long enough to be
+/// remembered.
 ///
 /// ```
 /// let (mut input, mut output) = (&b"at _ZN3foo3barE"[..], Vec::new());

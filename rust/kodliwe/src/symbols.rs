@@ -188,6 +188,10 @@ pub fn try_demangle(symbol: &str) -> Result<Demangle<'_>, TryDemangleError> {
 /// A symbol begins with `_ZN` or `_R`, and continues with all ASCII letters, digits, `_`, `.` and
 /// `$` that follow. All other text is written unchanged.
 ///
+/// This is the rule of `rustc_demangle::demangle_stream`: a symbol that begins with `_RC` is replaced
+/// too, and the `_` that macOS writes before a symbol stays. [`demangle_slice`] has the rule of
+/// `kodliwe`, and of the calls for C, Python and pages.
+///
 /// # Errors
 ///
 /// Fails if the sink rejects a piece.
@@ -244,9 +248,9 @@ pub fn demangle_text_formatted<S: TextSink>(
 /// Writes bytes to `out` with each Rust symbol in them demangled, as far as there is room. Returns
 /// the number of bytes of the complete text.
 ///
-/// The bytes need not be UTF-8. Symbols are found as by `demangle_bytes`: one directly after an ASCII
-/// letter or digit stays, and a path also replaces the single `_` that macOS writes before a symbol.
-/// Each path is cut at `limit` bytes. What its references make it read again also cuts it
+/// The bytes need not be UTF-8. Symbols are found as by `demangle_bytes`: one that begins with `_RC`
+/// stays, as in `v1.0_RC0`, and a path also replaces the single `_` that macOS writes before a
+/// symbol. Each path is cut at `limit` bytes. What its references make it read again also cuts it
 /// ([`RereadLimit::Linear`](crate::RereadLimit::Linear)). Returns `None` if the number of bytes
 /// exceeds `usize::MAX`.
 ///

@@ -102,6 +102,115 @@ fn a_format_has_what_was_set() {
 }
 
 #[test]
+fn a_format_keeps_what_was_set_before() {
+    let mut setters: [fn(Format) -> Format; 4] = [
+        |format| format.with_hash(true),
+        |format| format.with_folded_arguments(true),
+        |format| format.with_limit(7),
+        |format| format.with_reread_limit(RereadLimit::Bytes(9)),
+    ];
+    let set = |setters: &[fn(Format) -> Format]| {
+        setters
+            .iter()
+            .fold(Format::new(), |format, set| set(format))
+    };
+    let all = set(&setters);
+    for _ in 0..2 {
+        for _ in 0..4 {
+            assert_eq!(set(&setters), all);
+            assert_ne!(set(&setters[1..]), all);
+            setters.rotate_left(1);
+        }
+        setters.reverse();
+    }
+}
+
+/// A symbol with generic arguments and the hash of a crate, and its paths: whether it has the hash, the
+/// limit, the path, and the folded one.
+const MIO: &str = "_RINvCs8a2262Dv4r_3mio4pollhE";
+const MIO_PATHS: [(bool, usize, &str, &str); 6] = [
+    (false, 100, "mio::poll::<u8>", "mio::poll::<_>"),
+    (
+        true,
+        100,
+        "mio[1888792e1a78739]::poll::<u8>",
+        "mio[1888792e1a78739]::poll::<_>",
+    ),
+    (
+        false,
+        9,
+        "mio::poll{size limit reached}",
+        "mio::poll{size limit reached}",
+    ),
+    (
+        true,
+        9,
+        "mio[{size limit reached}",
+        "mio[{size limit reached}",
+    ),
+    (false, 0, "{size limit reached}", "{size limit reached}"),
+    (true, 0, "{size limit reached}", "{size limit reached}"),
+];
+
+#[test]
+fn a_path_has_the_hash_and_the_limit_that_are_given() {
+    for (has_hash, limit, path, folded) in MIO_PATHS {
+        let format = Format::new().with_hash(has_hash).with_limit(limit);
+        let symbol = demangle(MIO);
+        let mut paths: [ArraySink<64>; 7] = Default::default();
+        symbol
+            .write_limited(&mut paths[0], has_hash, limit)
+            .unwrap();
+        symbol.write_formatted(&mut paths[1], format).unwrap();
+        demangle_text_limited(MIO, &mut paths[2], has_hash, limit).unwrap();
+        demangle_text_formatted(MIO, &mut paths[3], format).unwrap();
+        symbol.write_folded(&mut paths[4], has_hash, limit).unwrap();
+        symbol
+            .write_formatted(&mut paths[5], format.with_folded_arguments(true))
+            .unwrap();
+        demangle_text_formatted(MIO, &mut paths[6], format.with_folded_arguments(true)).unwrap();
+        let wanted = [path, path, path, path, folded, folded, folded];
+        assert_eq!(paths.each_ref().map(ArraySink::as_str), wanted);
+        let mut memory = [0; 64];
+        let len = demangle_slice(MIO.as_bytes(), &mut memory, has_hash, limit).unwrap();
+        assert_eq!(&memory[..len], path.as_bytes());
+        if limit == 100 {
+            let mut whole: [ArraySink<64>; 2] = Default::default();
+            symbol.write_to(&mut whole[0], has_hash).unwrap();
+            demangle_text(MIO, &mut whole[1], has_hash).unwrap();
+            assert_eq!(whole.each_ref().map(ArraySink::as_str), [path, path]);
+            let shown = if has_hash {
+                symbol.to_string()
+            } else {
+                format!("{symbol:#}")
+            };
+            assert_eq!(shown, path);
+        }
+    }
+}
+
+#[test]
+fn a_path_of_a_symbol_is_cut_at_a_million_bytes() {
+    // Its path has 2,000,000 bytes.
+    let symbol = demangle("_RMC0FGZZZ_Eu");
+    let mut paths: [String; 3] = Default::default();
+    symbol
+        .write_formatted(&mut FmtSink::new(&mut paths[0]), Format::new())
+        .unwrap();
+    demangle_text_formatted(
+        symbol.as_str(),
+        &mut FmtSink::new(&mut paths[1]),
+        Format::new(),
+    )
+    .unwrap();
+    paths[2] = format!("{symbol:#}");
+    for path in paths {
+        let cut = path.strip_suffix("{size limit reached}").unwrap();
+        assert!((MAX_SIZE - 20..=MAX_SIZE).contains(&cut.len()));
+    }
+}
+
+#[test]
 fn texts_are_demangled() {
     let text = format!("at {SYMBOL}:7");
     let mut whole = ArraySink::<64>::new();
@@ -143,6 +252,26 @@ fn a_slice_counts_what_does_not_fit() {
         "SliceSink { len: 8, is_failed: false, .. }"
     );
     assert_eq!(&memory, b"foo:");
+    assert!(SliceSink::new(&mut []).is_empty());
+    let mut sink = SliceSink::new(&mut []);
+    assert!(sink.put("a").is_ok());
+    assert!(!sink.is_empty());
+}
+
+#[test]
+fn a_formatter_that_failed_is_shown() {
+    struct Full;
+
+    impl std::fmt::Write for Full {
+        fn write_str(&mut self, _: &str) -> std::fmt::Result {
+            Err(std::fmt::Error)
+        }
+    }
+
+    let mut full = Full;
+    let mut sink = FmtSink::new(&mut full);
+    assert!(demangle(SYMBOL).write_to(&mut sink, false).is_err());
+    assert_eq!(format!("{sink:?}"), "FmtSink { is_failed: true, .. }");
 }
 
 #[test]
@@ -214,11 +343,12 @@ fn calls_over_bytes_write_at_most_1_000_bytes_for_each() {
 
 #[cfg(feature = "stream")]
 mod streams {
-    use super::{FOLDED, has_auto_traits, is_error};
+    use super::{FOLDED, MIO, MIO_PATHS, has_auto_traits, is_error};
     use kodliwe::{
-        BytesFilter, StreamFault, WriteSink, demangle, demangle_bytes, demangle_bytes_formatted,
-        demangle_bytes_limited, demangle_stream, demangle_stream_named,
+        BytesFilter, Format, StreamFault, WriteSink, demangle, demangle_bytes,
+        demangle_bytes_formatted, demangle_bytes_limited, demangle_stream, demangle_stream_named,
     };
+    use std::error::Error;
     use std::io::{self, ErrorKind, Write};
 
     const TEXT: &[u8] = b"at _ZN3foo3barE:7\n";
@@ -264,6 +394,77 @@ mod streams {
     }
 
     #[test]
+    fn each_call_has_the_hash_and_the_limit_that_are_given() {
+        for (has_hash, limit, path, folded) in MIO_PATHS {
+            let text = MIO.as_bytes();
+            let format = Format::new().with_hash(has_hash).with_limit(limit);
+            let mut outputs: [Vec<u8>; 4] = Default::default();
+            demangle_bytes_limited(&mut &text[..], &mut outputs[0], has_hash, limit).unwrap();
+            demangle_bytes_formatted(&mut &text[..], &mut outputs[1], format).unwrap();
+            let (mut filter, mut input) = (BytesFilter::with_limit(has_hash, limit), text);
+            while filter.step(&mut input, &mut outputs[2]).unwrap() {}
+            let fold = format.with_folded_arguments(true);
+            let (mut filter, mut input) = (BytesFilter::with_format(fold), text);
+            while filter.step(&mut input, &mut outputs[3]).unwrap() {}
+            let wanted = [path, path, path, folded];
+            assert_eq!(
+                outputs.map(|output| String::from_utf8(output).unwrap()),
+                wanted
+            );
+            if limit == 100 {
+                let mut outputs: [Vec<u8>; 4] = Default::default();
+                demangle_stream(&mut &text[..], &mut outputs[0], has_hash).unwrap();
+                demangle_stream_named(&mut &text[..], &mut outputs[1], has_hash).unwrap();
+                demangle_bytes(&mut &text[..], &mut outputs[2], has_hash).unwrap();
+                let (mut filter, mut input) = (BytesFilter::new(has_hash), text);
+                while filter.step(&mut input, &mut outputs[3]).unwrap() {}
+                for output in outputs {
+                    assert_eq!(output, path.as_bytes());
+                }
+            }
+        }
+    }
+
+    #[test]
+    fn each_fault_is_shown() {
+        let rows = [
+            (
+                StreamFault::Read(ErrorKind::TimedOut.into()),
+                "the input could not be read",
+                "Read(Kind(TimedOut))",
+            ),
+            (
+                StreamFault::Write(ErrorKind::StorageFull.into()),
+                "the output could not be written",
+                "Write(Kind(StorageFull))",
+            ),
+            (StreamFault::NotUtf8, "a line is not UTF-8", "NotUtf8"),
+            (StreamFault::Memory, "out of memory", "Memory"),
+        ];
+        let kinds = [
+            ErrorKind::TimedOut,
+            ErrorKind::StorageFull,
+            ErrorKind::InvalidData,
+            ErrorKind::OutOfMemory,
+        ];
+        for ((fault, text, debug), kind) in rows.into_iter().zip(kinds) {
+            assert_eq!(
+                (fault.to_string(), format!("{fault:?}")),
+                (text.into(), debug.into())
+            );
+            let source = fault
+                .source()
+                .and_then(|error| error.downcast_ref::<io::Error>())
+                .map(io::Error::kind);
+            assert_eq!(
+                source,
+                matches!(fault, StreamFault::Read(_) | StreamFault::Write(_)).then_some(kind)
+            );
+            assert_eq!(io::Error::from(fault).kind(), kind);
+        }
+    }
+
+    #[test]
     fn a_format_is_that_of_the_text() {
         let text = b"_RNvMC3fooINtB2_3BarlE3baz ".repeat(3);
         let wanted = b"<foo::Bar<_>>::baz ".repeat(3);
@@ -298,7 +499,9 @@ mod streams {
         assert_eq!(output, b"foo::bar");
         let mut closed = Closed;
         let mut sink = WriteSink::new(&mut closed);
+        assert_eq!(format!("{sink:?}"), "WriteSink { is_failed: false, .. }");
         assert!(demangle("_ZN3foo3barE").write_to(&mut sink, false).is_err());
+        assert_eq!(format!("{sink:?}"), "WriteSink { is_failed: true, .. }");
         assert_eq!(
             sink.into_fault().map(|error| error.kind()),
             Some(ErrorKind::BrokenPipe)

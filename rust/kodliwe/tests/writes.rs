@@ -144,6 +144,24 @@ fn a_legacy_symbol_with_a_hash_is_one_write() {
 }
 
 #[test]
+fn a_legacy_symbol_whose_suffix_ends_in_a_digit_is_one_write() {
+    for (suffix, printed) in [
+        (".llvm.12345678901234567890", ""),
+        (".constprop.0", ".constprop.0"),
+        (".cold.7", ".cold.7"),
+    ] {
+        let (symbol, path) = (
+            LEGACY.to_string() + suffix,
+            LEGACY_PATH.to_string() + printed,
+        );
+        let mut filter = Watched::new();
+        for wanted in [PRINTED, PRINTED, REMEMBERED] {
+            assert_eq!(written(&mut filter, &symbol, &path), wanted, "{suffix}");
+        }
+    }
+}
+
+#[test]
 fn a_v0_symbol_is_one_write() {
     let long = format!("_RNvCs{}_1a1b", "0".repeat(2_037));
     let longer = format!("_RNvCs{}_1a1b", "0".repeat(2_039));
@@ -171,6 +189,7 @@ fn a_v0_symbol_is_one_write() {
             "crate::generic::<_>",
         ),
         (&long, "a::b", "a::b"),
+        (&longer, "a::b", "a::b"),
         (MANY, MANY_PATH, "crate::function::<_>"),
     ];
     for (symbol, path, folded) in rows {
@@ -181,11 +200,6 @@ fn a_v0_symbol_is_one_write() {
                 assert_eq!(written(&mut filter, symbol, path).writes, 1, "{symbol}");
             }
         }
-    }
-    // Each piece of a longer symbol is a write.
-    let mut filter = Watched::new();
-    for _ in 0..3 {
-        assert_eq!(written(&mut filter, &longer, "a::b").writes, 3);
     }
 }
 
@@ -230,6 +244,32 @@ fn a_text_of_any_length_is_one_write() {
     }
 }
 
+/// Returns a symbol whose path has a binder of 3,845 lifetimes `times` times, and the path.
+fn bound_often(times: usize) -> (String, String) {
+    let name = "x".repeat(1_000);
+    let symbol = format!("_RIC1000{name}{}E", "FGZZ_Eu".repeat(times));
+    let letters = ('a'..='z').map(|letter| format!("'{letter}"));
+    let numbers = (26..3_845).map(|number| format!("'_{number}"));
+    let lifetimes: Vec<String> = letters.chain(numbers).collect();
+    let binder = format!("for<{}> fn()", lifetimes.join(", "));
+    (
+        symbol,
+        format!("{name}::<{}>", vec![binder; times].join(", ")),
+    )
+}
+
+#[test]
+fn a_path_of_up_to_a_million_bytes_is_one_write() {
+    for times in [18, 22, 29] {
+        let (symbol, path) = bound_often(times);
+        assert!(path.len() > 27_000 * times && path.len() <= 1_000_000);
+        let mut filter = Watched::new();
+        for _ in 0..3 {
+            assert_eq!(written(&mut filter, &symbol, &path).writes, 1, "{times}");
+        }
+    }
+}
+
 #[test]
 fn a_long_text_with_a_limit_over_a_million_is_written_in_parts() {
     let format = Format::new().with_limit(1_000_001);
@@ -256,12 +296,29 @@ fn a_symbol_after_a_run_that_is_none_is_one_write() {
 fn a_filter_reads_another_input_after_its_end() {
     let mut filter = BytesFilter::new(false);
     let mut output = Vec::new();
-    // A symbol directly after a letter would stay.
-    for text in ["x", "_RC1a", "_", " _RC1b\n"] {
+    // A path would replace the `_` too, if the first input did not end before it.
+    for text in ["x", "_RNvC1a1b", "_", "_RNvC1a1b\n"] {
         let mut input = text.as_bytes();
         while filter.step(&mut input, &mut output).unwrap() {}
     }
-    assert_eq!(output, b"xa_ b\n");
+    assert_eq!(output, b"xa::b_a::b\n");
+}
+
+#[test]
+fn symbols_of_any_length_are_remembered_beside_one_another() {
+    for len in [1, 5, 9, 13, 19, 40, 100] {
+        let (mut filter, mut remembered) = (Watched::new(), 0);
+        for turn in 0..3 {
+            for number in 0..100 {
+                let path = format!("crate_{number:02}::{}", "x".repeat(len));
+                let symbol = format!("_RNvC8crate_{number:02}{len}{}", "x".repeat(len));
+                let is_remembered = written(&mut filter, &symbol, &path).is_remembered;
+                remembered += usize::from(turn == 2 && is_remembered);
+            }
+        }
+        // Two of them may share a slot of the memo.
+        assert!(remembered >= 95, "{len}: {remembered}");
+    }
 }
 
 #[test]

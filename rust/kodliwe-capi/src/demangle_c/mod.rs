@@ -152,9 +152,9 @@ pub fn kodliwe_demangle_text_folded(
 /// the number of bytes of that text and the 0.
 ///
 /// A candidate symbol starts at `_ZN` or `_R`. It ends before the next byte that is not an ASCII
-/// letter, a digit, `$`, `.` or `_`. It stays directly after an ASCII letter or digit. A path also
-/// replaces a single `_` before its symbol, if that `_` is the first byte or follows a byte that no
-/// symbol may have. All other bytes stay unchanged.
+/// letter, a digit, `$`, `.` or `_`. It stays if it begins with `_RC`. A path also replaces a single
+/// `_` before its symbol, if that `_` is the first byte or follows a byte that no symbol may have.
+/// All other bytes stay unchanged.
 ///
 /// Each path is cut at `limit` bytes, and at 1,000,000 at most. If `limit` is `usize::MAX`, none is
 /// given: then a symbol of n bytes is cut at 999 n - 20 bytes, and at 1,000,000 at most. So the text

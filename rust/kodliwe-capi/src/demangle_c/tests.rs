@@ -239,7 +239,7 @@ fn a_text_keeps_all_but_its_symbols() {
 #[test]
 fn the_bytes_before_a_symbol_of_a_text() {
     let mut out = [9; 40];
-    let text = b"SW_RC0.zip .text._ZN3fooE __ZN3fooE a__RC1a";
+    let text = b"SW_RC0.zip .text._ZN3fooE __ZN3fooE a__ZN1aE";
     assert_eq!(kodliwe_demangle_text(text, &mut out, false, 1000), 29);
     assert!(out.starts_with(b"SW_RC0.zip .text.foo foo a_a\0\x09"));
     assert_eq!(
@@ -247,6 +247,40 @@ fn the_bytes_before_a_symbol_of_a_text() {
         29
     );
     assert!(out.starts_with(b"SW_RC0.zip .text.foo foo a_a\0\x09"));
+}
+
+#[test]
+fn runs_of_a_text_that_stay_and_runs_after_each_byte() {
+    let rows: &[(&[u8], &[u8])] = &[
+        (b"int _RC0 = 1; v1.0_RC0", b"int _RC0 = 1; v1.0_RC0"),
+        (b"_RC2_40 __RC0 x__RC0", b"_RC2_40 __RC0 x__RC0"),
+        (b"config_Release __REG", b"config_Release __REG"),
+        (b"\"a\\n_RNvC3foo3bar\"", b"\"a\\nfoo::bar\""),
+        (b"\\t_ZN3fooE\\r\\n_ZN3fooE", b"\\tfoo\\r\\nfoo"),
+        (
+            b"\x1B[01;31m\x1B[K_ZN3fooE\x1B[m",
+            b"\x1B[01;31m\x1B[Kfoo\x1B[m",
+        ),
+        (b"b'\\x00_RNvC3foo3bar\\xff'", b"b'\\x00foo::bar\\xff'"),
+        (b"%20_RNvC3foo3bar", b"%20foo::bar"),
+        (b"L_ZN3fooE .L_RNvC3foo3bar", b"Lfoo .Lfoo::bar"),
+        (b"_RMC3foox a_RXC0uC1t", b"<i64> a<() as t>"),
+        (b"_RYsC5h05af __RMC3foox", b"<i16 as h05af> <i64>"),
+    ];
+    for &(text, wanted) in rows {
+        let mut out = [9; 40];
+        let size = wanted.len().saturating_add(1);
+        assert_eq!(kodliwe_demangle_text(text, &mut out, false, 1000), size);
+        assert!(out.starts_with(wanted), "of {text:?}");
+        assert_eq!(out.get(wanted.len()), Some(&0), "of {text:?}");
+        let mut out = [9; 40];
+        assert_eq!(
+            kodliwe_demangle_text_folded(text, &mut out, true, 1000),
+            size
+        );
+        assert!(out.starts_with(wanted), "of {text:?}");
+        assert_eq!(out.get(wanted.len()), Some(&0), "of {text:?}");
+    }
 }
 
 #[test]

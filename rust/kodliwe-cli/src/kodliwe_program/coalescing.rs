@@ -25,11 +25,6 @@ impl<W: Write> CoalescingOutput<W> {
         }
     }
 
-    /// Returns the writer below the buffer.
-    pub fn get_ref(&self) -> &W {
-        self.buffer.get_ref()
-    }
-
     /// Writes the held bytes, and continues if a signal interrupts that. Fails if the buffer fails;
     /// bytes that it did not accept stay held.
     fn write_held(&mut self) -> io::Result<()> {

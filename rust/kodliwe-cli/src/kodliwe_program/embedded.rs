@@ -53,15 +53,12 @@ and continues up to the next byte that is not an ASCII letter, a digit,
 .B .
 or
 .BR _ .
-A symbol directly after an ASCII letter or digit is copied unchanged, so version
-numbers such as
+In a text, a symbol that begins with
+.B _RC
+is copied unchanged, so version numbers such as
 .B v1.0_RC0
 stay.
-A symbol after the
-.B n
-of
-.B \\en
-in a string of JSON, or after a code that sets a terminal's color, stays too.
+It is a crate alone, for which compilers make no symbol.
 macOS writes one more
 .B _
 before a symbol.
@@ -141,18 +138,30 @@ Write into
 .B \\-
 is standard output.
 The option may be given once.
-A new file is written next to it.
-Its name is that of
+The output is written into a file without a name, in the folder of
+.IR FILE .
+When it is complete, it is copied into a new file, which replaces
+.IR FILE .
+The name of the new file is that of
 .I FILE
 with
 .B .kodliwe\\-
-and a number appended.
-When it is complete, it replaces
-.IR FILE .
+and the first free number appended.
 So an error leaves the old file unchanged, and
 .I FILE
 may be one of the inputs.
-A signal that ends the program leaves the new file there.
+The disk needs room for the output twice.
+.IP
+A signal that ends the program leaves the old file unchanged, and while the
+program filters, no new one.
+Only in two moments a new file with that name is left: at the start, before the
+first file loses its name, and at the end, while the output is copied.
+It may be removed, and other runs take other numbers.
+.IP
+If
+.I FILE
+is a symbolic link, it stays, and the file to which it leads is replaced, or
+created if there is none.
 .IP
 If
 .I FILE
@@ -272,7 +281,8 @@ The texts
 and
 .B ?
 show that one could not be followed or read.
-No symbol, however it is made, makes the program run for ever or end.
+If the stack is large enough, no symbol, however it is made, makes a program
+that the prover built crash or run for ever.
 .PP
 A path is printed as the symbol spells it, and not escaped for HTML, JSON or a
 terminal.
@@ -284,6 +294,7 @@ whose brackets end a tag in an SVG, and
 has U+009B, which begins a command of some terminals.
 .PP
 The program needs memory for the longest symbol, whatever the length of a line.
+It remembers the paths of symbols in at most 5.5 MB, or 7.6 MB while that grows.
 .SH EXAMPLES
 .RS
 .EX

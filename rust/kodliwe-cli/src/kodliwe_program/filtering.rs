@@ -219,11 +219,6 @@ impl<'a, R: Read> Part<'a, R> {
     }
 }
 
-/// What writing parts led to.
-struct Written<'a> {
-    result: Result<(), InputError<'a>>,
-}
-
 /// Writes what each part prints, in order and with one memo, and then flushes the output. Stops at
 /// the first error, and returns it with the name of its input.
 fn write_parts<'a, R: Read, W: Write, E: Write>(
@@ -231,20 +226,17 @@ fn write_parts<'a, R: Read, W: Write, E: Write>(
     parts: Vec<Part<'a, R>>,
     output: &mut W,
     errors: &mut E,
-) -> Written<'a> {
+) -> Result<(), InputError<'a>> {
     let mut symbols = Symbols {
         memo: SymbolMemo::with_format(settings.alloc, settings.format),
     };
     for part in parts {
-        if let Err(stop) = part.write(settings, output, errors, &mut symbols) {
-            return Written { result: Err(stop) };
-        }
+        part.write(settings, output, errors, &mut symbols)?;
     }
+
     match flush(output) {
-        Ok(()) => Written { result: Ok(()) },
-        Err(fault) => Written {
-            result: Err(InputError { name: "", fault }),
-        },
+        Ok(()) => Ok(()),
+        Err(fault) => Err(InputError { name: "", fault }),
     }
 }
 
@@ -262,12 +254,6 @@ fn outcome_of(fault: &StreamFault) -> FilterOutcome {
     }
 }
 
-/// What a run of the filter did.
-#[derive(Clone, Copy)]
-pub struct FilterRun {
-    pub outcome: FilterOutcome,
-}
-
 /// Writes what the parts print, in order: each text filtered on its own, and each argument as a
 /// line. Each path is cut at the limits. Writes a line if an input can't be read, the output can't
 /// be written, or memory can't be allocated. Writes a note on each input that is compressed or
@@ -279,19 +265,16 @@ pub struct FilterRun {
 /// written before is flushed in any case. An error of `errors` is ignored.
 ///
 /// With a linear limit of bytes, the parts print at most 1,000 bytes for each of their own, of which
-/// each argument has a line feed.
-pub fn filter_all_counted<R: Read, W: Write, E: Write>(
+/// each argument has a line feed. On `Complete` and `ReadFailed`, the writer appended no more.
+pub fn filter_all<R: Read, W: Write, E: Write>(
     settings: Settings,
     parts: Vec<Part<'_, R>>,
     output: &mut W,
     errors: &mut E,
-) -> FilterRun {
+) -> FilterOutcome {
     let written = write_parts(settings, parts, output, errors);
-
-    let Err(stop) = written.result else {
-        return FilterRun {
-            outcome: FilterOutcome::Complete,
-        };
+    let Err(stop) = written else {
+        return FilterOutcome::Complete;
     };
     let outcome = outcome_of(&stop.fault);
     if outcome == FilterOutcome::ReadFailed {
@@ -300,15 +283,5 @@ pub fn filter_all_counted<R: Read, W: Write, E: Write>(
     if outcome != FilterOutcome::Closed {
         report(settings.alloc, errors, &stop);
     }
-    FilterRun { outcome }
-}
-
-/// Writes what the parts print, as `filter_all_counted` does.
-pub fn filter_all<R: Read, W: Write, E: Write>(
-    settings: Settings,
-    parts: Vec<Part<'_, R>>,
-    output: &mut W,
-    errors: &mut E,
-) -> FilterOutcome {
-    filter_all_counted(settings, parts, output, errors).outcome
+    outcome
 }

@@ -7,8 +7,8 @@ pub const HELP: &str = "\
 Usage: kodliwe [OPTIONS] [SYMBOL]...
 
 Copies text with each Rust symbol in it demangled (legacy _ZN..E and v0 _R..).
-Each SYMBOL is a line of its own; without any, standard input is read. All that
-is no Rust symbol stays as it is: bytes that are not UTF-8, and C++ functions.
+Each SYMBOL is a line. Without any, and without -i, standard input is read. All
+that is no Rust symbol stays: bytes that are not UTF-8, and C++ functions.
 
   nm program | kodliwe
   kodliwe _ZN3foo17h05af221e174051e9E

@@ -1,14 +1,18 @@
 // Made from crates/kodliwe_program/src/replacement.rt by packaging/crate/erase.py: edit that file instead.
 //! Writes a file completely or not at all.
+//!
+//! While a file is written, it has no name, so nothing of it is left when the program ends, whatever
+//! ends it. When it is complete, it is copied into a file with a temporary name, which is renamed.
 
-use crate::support::alloc::Global;
+use crate::kodliwe_program::error::{OUT_OF_MEMORY, report_call};
+use crate::support::alloc::{AllocError, Global};
 use crate::support::format;
 use crate::support::fs::{Files, Metadata, OpenFile, OpenOptions};
 use crate::support::os::fd::AsFd;
 use crate::support::os::unix::fs::{MetadataExt, OpenOptionsExt, PermissionsExt, fchown};
 use crate::support::string::String;
 use std::io;
-use std::io::ErrorKind;
+use std::io::{ErrorKind, Seek, Write};
 
 /// The permission bits of a mode. The other bits are set-uid, set-gid, sticky and the type.
 const PERMISSIONS: u32 = 0o777;
@@ -16,56 +20,37 @@ const PERMISSIONS: u32 = 0o777;
 const PRIVATE: u32 = 0o600;
 /// The mode of a new file, before the system narrows it by the umask.
 const SHARED: u32 = 0o666;
+/// The largest number of a temporary name.
+const LAST_NUMBER: u32 = 999_999;
+/// The most links that are followed, one after the other. Linux follows as many.
+const MOST_LINKS: u32 = 40;
 
-/// The temporary name of a file, and the name that it gets when it is complete.
-pub struct Replacement {
-    unfinished: String,
-    path: String,
-    /// The file that is replaced, if there is one.
-    old: Option<Metadata>,
+/// Why an output was not written.
+pub enum OutputError {
+    /// A call failed on the file or the folder of this name.
+    Call(String, io::Error),
+    /// Memory can't be allocated.
+    Memory,
 }
 
-impl Replacement {
-    /// Gives the complete file the owner, the group and the permissions of the one that it
-    /// replaces, and then its name. Fails if the file can't be synchronized or renamed, or if its
-    /// permissions can't be set.
-    pub fn finish<F: Files>(&self, files: &F, file: &F::File) -> io::Result<()>
-    where
-        F::File: AsFd,
-    {
-        if let Some(old) = &self.old {
-            take_owner(file, old)?;
-            take_permissions(file, old)?;
-        }
-        file.sync_all()?;
-        files.rename(self.unfinished.as_str(), self.path.as_str())
-    }
-
-    /// Removes the file. An error is ignored.
-    pub fn discard(&self, files: &impl Files) {
-        let _ = files.remove_file(self.unfinished.as_str());
+impl From<AllocError> for OutputError {
+    fn from(_error: AllocError) -> OutputError {
+        OutputError::Memory
     }
 }
 
-/// Why an output was not opened.
-pub struct OpenError {
-    /// Whether the folder of the file failed, and not the file.
-    pub is_in_folder: bool,
-    pub error: io::Error,
-}
-
-impl OpenError {
-    /// Returns the error of a call on the file itself.
-    fn of_file(error: io::Error) -> OpenError {
-        OpenError {
-            is_in_folder: false,
-            error,
+impl OutputError {
+    /// Returns the error of a call on the file or the folder of this name.
+    fn of_call(alloc: Global, name: &str, error: io::Error) -> OutputError {
+        match String::from_str(alloc, name) {
+            Ok(name) => OutputError::Call(name, error),
+            Err(_) => OutputError::Memory,
         }
     }
 
-    /// Returns the error of a call that looks for the file, or creates one next to it. It is
-    /// attributed to the folder if the folder can't be used.
-    fn in_folder(error: io::Error) -> OpenError {
+    /// Returns the error of a call that looks for the file at a path, or creates it. It names the
+    /// folder if that can't be used.
+    fn in_folder(alloc: Global, path: &str, error: io::Error) -> OutputError {
         let is_in_folder = matches!(
             error.kind(),
             ErrorKind::NotFound
@@ -73,15 +58,23 @@ impl OpenError {
                 | ErrorKind::PermissionDenied
                 | ErrorKind::ReadOnlyFilesystem
         );
-        OpenError {
-            is_in_folder,
-            error,
+        let name = if is_in_folder { folder_of(path) } else { path };
+        OutputError::of_call(alloc, name, error)
+    }
+
+    /// Writes the line for the error. An error of `errors` is ignored.
+    pub fn report<E: Write>(&self, alloc: Global, errors: &mut E) {
+        match self {
+            OutputError::Call(name, error) => report_call(alloc, errors, name.as_str(), error),
+            OutputError::Memory => {
+                let _ = errors.write_all(OUT_OF_MEMORY.as_bytes());
+            }
         }
     }
 }
 
 /// Returns the folder that a path names a file in.
-pub fn folder_of(path: &str) -> &str {
+fn folder_of(path: &str) -> &str {
     match path.rsplit_once('/') {
         Some(("", _)) => "/",
         Some((folder, _)) => folder,
@@ -122,96 +115,210 @@ fn take_permissions<F: OpenFile>(file: &F, old: &Metadata) -> io::Result<()> {
     file.set_permissions(permissions)
 }
 
-/// The number of temporary names that are tried.
-const TRIES: u32 = 100;
-
-/// Returns the options to create a file with this mode.
-fn creation(mode: u32) -> OpenOptions {
-    let mut options = OpenOptions::new();
-    options.write(true).create_new(true);
-    options.mode(mode);
-    options
-}
-
-/// Creates a file next to `path`, with a name that no file has. Only its owner may open it if it
-/// replaces a file. Fails if each name is in use, the file can't be created, or memory can't be
-/// allocated.
-fn create_temporary<F: Files>(
+/// Creates a file with this name, and returns both. Fails if a file has that name, if the file can't
+/// be created, or if memory can't be allocated.
+fn create_named<F: Files>(
     alloc: Global,
     files: &F,
-    path: String,
-    old: Option<Metadata>,
-) -> io::Result<(F::File, Replacement)> {
-    let options = creation(if old.is_some() { PRIVATE } else { SHARED });
-    for number in 0..TRIES {
-        let unfinished = format!(in alloc; "{path}.kodliwe-{number}")?;
-        match options.open(files, unfinished.as_str()) {
-            Ok(file) => {
-                let replacement = Replacement {
-                    unfinished,
-                    path,
-                    old,
-                };
-                return Ok((file, replacement));
-            }
-            Err(error) if error.kind() == ErrorKind::AlreadyExists => {}
-            Err(error) => return Err(error),
+    mode: u32,
+    name: String,
+) -> Result<(F::File, String), OutputError> {
+    let mut options = OpenOptions::new();
+    options.read(true).write(true).create_new(true);
+    options.mode(mode);
+    match options.open(files, name.as_str()) {
+        Ok(file) => Ok((file, name)),
+        Err(error) => Err(OutputError::in_folder(alloc, name.as_str(), error)),
+    }
+}
+
+/// Returns whether a file was not created because its name is taken.
+fn is_taken<T>(created: &Result<T, OutputError>) -> bool {
+    match created {
+        Err(OutputError::Call(_, error)) => error.kind() == ErrorKind::AlreadyExists,
+        _ => false,
+    }
+}
+
+/// Creates a file next to `path`, with the first temporary name that no file has, and returns both.
+/// Fails if a file has each of these names, and otherwise as `create_named` does.
+fn create_next_to<F: Files>(
+    alloc: Global,
+    files: &F,
+    path: &str,
+    mode: u32,
+) -> Result<(F::File, String), OutputError> {
+    for number in 0..LAST_NUMBER {
+        let name = format!(in alloc; "{path}.kodliwe-{number}")?;
+        let created = create_named(alloc, files, mode, name);
+        if !is_taken(&created) {
+            return created;
         }
     }
-    Err(io::Error::from(ErrorKind::AlreadyExists))
+    let name = format!(in alloc; "{path}.kodliwe-{LAST_NUMBER}")?;
+    create_named(alloc, files, mode, name)
 }
 
-/// Creates a file for a path that does not exist. Fails as `create_temporary` does.
-fn open_new<F: Files>(
+/// Creates a file in the folder of `path`, and removes its name. Only its owner may open it before
+/// that. Fails as `create_next_to` does, or if the name can't be removed.
+fn create_unnamed<F: Files>(alloc: Global, files: &F, path: &str) -> Result<F::File, OutputError> {
+    let (file, name) = create_next_to(alloc, files, path, PRIVATE)?;
+    match files.remove_file(name.as_str()) {
+        Ok(()) => Ok(file),
+        Err(error) => Err(OutputError::Call(name, error)),
+    }
+}
+
+/// The path of an output, and the file there that is replaced, if there is one.
+pub struct Replacement {
+    path: String,
+    old: Option<Metadata>,
+}
+
+impl Replacement {
+    /// Copies the complete text into the file with this name, gives that the owner, the group and
+    /// the permissions of the one that it replaces, and then its name. Fails if one of that fails.
+    fn fill<F: Files>(
+        &self,
+        files: &F,
+        text: &mut F::File,
+        file: &mut F::File,
+        name: &str,
+    ) -> io::Result<()>
+    where
+        F::File: AsFd,
+    {
+        text.rewind()?;
+        io::copy(text, file)?;
+        if let Some(old) = &self.old {
+            take_owner(file, old)?;
+            take_permissions(file, old)?;
+        }
+        file.sync_all()?;
+        files.rename(name, self.path.as_str())
+    }
+
+    /// Makes the complete text, which is in a file without a name, the file at the path. Only its
+    /// owner may open a file that replaces one before it is complete. After an error, no new file is
+    /// there, and the old one is unchanged.
+    ///
+    /// Fails if the file can't be created, written, synchronized or renamed, if its permissions can't
+    /// be set, or if memory can't be allocated.
+    pub fn finish<F: Files>(
+        &self,
+        alloc: Global,
+        files: &F,
+        text: &mut F::File,
+    ) -> Result<(), OutputError>
+    where
+        F::File: AsFd,
+    {
+        let mode = if self.old.is_some() { PRIVATE } else { SHARED };
+        let (mut file, name) = create_next_to(alloc, files, self.path.as_str(), mode)?;
+        match self.fill(files, text, &mut file, name.as_str()) {
+            Ok(()) => Ok(()),
+            Err(error) => {
+                let _ = files.remove_file(name.as_str());
+                Err(OutputError::of_call(alloc, self.path.as_str(), error))
+            }
+        }
+    }
+}
+
+/// Returns the path of what a link at a path leads to. Fails if memory can't be allocated.
+fn target_path(alloc: Global, link: &str, target: &str) -> Result<String, AllocError> {
+    match link.rsplit_once('/') {
+        Some((folder, _)) if !target.starts_with('/') => format!(in alloc; "{folder}/{target}"),
+        _ => String::from_str(alloc, target),
+    }
+}
+
+/// Returns the path to which a link at a path leads, also over other links, whether a file is there
+/// or not. Returns any other path unchanged. Fails if a link can't be read, or if memory can't be
+/// allocated.
+fn followed<F: Files>(alloc: Global, files: &F, path: &str) -> Result<String, OutputError> {
+    let mut path = String::from_str(alloc, path)?;
+    for _ in 0..MOST_LINKS {
+        match files.symlink_metadata(path.as_str()) {
+            Ok(found) if found.is_symlink() => {}
+            Ok(_) => return Ok(path),
+            Err(error) if error.kind() == ErrorKind::NotFound => return Ok(path),
+            Err(error) => return Err(OutputError::in_folder(alloc, path.as_str(), error)),
+        }
+        path = match files.read_link(alloc, path.as_str()) {
+            Ok(target) => target_path(alloc, path.as_str(), target.as_str())?,
+            Err(error) => return Err(OutputError::of_call(alloc, path.as_str(), error)),
+        };
+    }
+    Ok(path)
+}
+
+/// Fails if the file at the path to which links lead is not the one that the system found by them.
+fn check_followed<F: Files>(
     alloc: Global,
     files: &F,
     path: &str,
-) -> io::Result<(F::File, Option<Replacement>)> {
-    let path = String::from_str(alloc, path)?;
-    let (file, replacement) = create_temporary(alloc, files, path, None)?;
-    Ok((file, Some(replacement)))
+    old: Option<&Metadata>,
+) -> Result<(), OutputError> {
+    let error = match (files.symlink_metadata(path), old) {
+        (Ok(found), Some(old)) if found.dev() == old.dev() && found.ino() == old.ino() => {
+            return Ok(());
+        }
+        (Err(error), None) if error.kind() == ErrorKind::NotFound => return Ok(()),
+        (Ok(_), _) => io::Error::other("a link to it has changed"),
+        (Err(error), _) => error,
+    };
+    Err(OutputError::of_call(alloc, path, error))
 }
 
-/// Creates a file next to an existing one, of which any links are followed. Fails as
-/// `create_temporary` does, or if the links can't be followed.
-fn open_next_to<F: Files>(
-    alloc: Global,
-    files: &F,
-    path: &str,
-    old: Metadata,
-) -> io::Result<(F::File, Option<Replacement>)> {
-    let path = files.canonicalize(alloc, path)?;
-    let path = String::from_str(alloc, path.as_str())?;
-    let (file, replacement) = create_temporary(alloc, files, path, Some(old))?;
-    Ok((file, Some(replacement)))
+/// Returns why the system can't look for the file at a path. If links lead there, the error is that
+/// of the link which can't be followed.
+fn lookup_error<F: Files>(alloc: Global, files: &F, path: &str, error: io::Error) -> OutputError {
+    match followed(alloc, files, path) {
+        Err(fault) => fault,
+        Ok(target) if target.as_str() == path => OutputError::in_folder(alloc, path, error),
+        Ok(_) => OutputError::of_call(alloc, path, error),
+    }
 }
 
 /// Opens the output file for a path. Returns the file, and the replacement to finish when the file
 /// is complete.
 ///
-/// If a regular file or nothing is at the path, creates a new file next to it. Opens anything else,
-/// such as a device or a pipe, itself, and returns no replacement. Fails if the file can't be
-/// written, if its folder can't be used, or if memory can't be allocated.
+/// If a regular file or nothing is at the path, creates a file without a name in its folder. Links
+/// are followed, also one that leads to nothing. Opens anything else, such as a device or a pipe,
+/// itself, and returns no replacement. Fails if the file can't be written, if its folder can't be
+/// used, or if memory can't be allocated.
 pub fn open_output<F: Files>(
     alloc: Global,
     files: &F,
     path: &str,
-) -> Result<(F::File, Option<Replacement>), OpenError> {
-    let old = match files.metadata(path) {
-        Ok(old) => old,
-        Err(error) if error.kind() == ErrorKind::NotFound => {
-            return open_new(alloc, files, path).map_err(OpenError::in_folder);
-        }
-        Err(error) => return Err(OpenError::in_folder(error)),
-    };
-    // A file that can't be written is not replaced either.
-    let file = match OpenOptions::new().write(true).open(files, path) {
-        Ok(file) => file,
-        Err(error) => return Err(OpenError::of_file(error)),
-    };
-    if !old.is_file() {
-        return Ok((file, None));
+) -> Result<(F::File, Option<Replacement>), OutputError> {
+    // The system may not allow to follow a link of another user. So it is asked after the links
+    // were read: a link that is placed between both calls is not followed.
+    let target = followed(alloc, files, path);
+    if matches!(&target, Err(OutputError::Memory)) {
+        return Err(OutputError::Memory);
     }
-    drop(file);
-    open_next_to(alloc, files, path, old).map_err(OpenError::in_folder)
+    let old = match files.metadata(path) {
+        Ok(old) => Some(old),
+        Err(error) if error.kind() == ErrorKind::NotFound => None,
+        Err(error) => return Err(lookup_error(alloc, files, path, error)),
+    };
+    if let Some(old) = &old {
+        // A file that can't be written is not replaced either.
+        let file = match OpenOptions::new().write(true).open(files, path) {
+            Ok(file) => file,
+            Err(error) => return Err(OutputError::of_call(alloc, path, error)),
+        };
+        if !old.is_file() {
+            return Ok((file, None));
+        }
+    }
+    let target = target?;
+    if target.as_str() != path {
+        check_followed(alloc, files, target.as_str(), old.as_ref())?;
+    }
+    let file = create_unnamed(alloc, files, target.as_str())?;
+    let replacement = Replacement { path: target, old };
+    Ok((file, Some(replacement)))
 }

@@ -25,11 +25,11 @@ mod streams;
 
 /// The text of a log: both schemes, partial symbols, a byte of Latin-1, NUL, and long runs.
 const LOG: &[u8] = b"a _ZN3foo17h05af221e174051e9E\r\n\n_ _Z _R _ZN __R \
-    _RNvC5crate4main.llvm.0 _RCs_3foo \xE9t\xE9 \0_ZN3fooE\0 _ZN1a1bE._ZN1cE _Z_ZN1a1bE$x\n_ZN3barE";
+    _RNvC5crate4main.llvm.0 _RNvC1a1b \xE9t\xE9 \0_ZN3fooE\0 _ZN1a1bE._ZN1cE _Z_ZN1a1bE$x\n_ZN3barE";
 
 /// The log without hashes.
 const FILTERED_LOG: &[u8] = b"a foo\r\n\n_ _Z _R _ZN __R \
-    crate::main foo \xE9t\xE9 \0foo\0 a::b._ZN1cE _Z_ZN1a1bE$x\nbar";
+    crate::main a::b \xE9t\xE9 \0foo\0 a::b._ZN1cE _Z_ZN1a1bE$x\nbar";
 
 /// Returns the output of the line filter for a text, which has to be UTF-8, with or without hashes.
 fn by_lines(alloc: Global, text: &[u8], include_hash: bool) -> Result<Vec<u8>, AllocError> {
@@ -92,7 +92,7 @@ fn a_log_of_any_bytes_is_filtered_in_chunks_of_any_size() -> Result<(), Fail> {
 fn each_prefix_is_filtered_as_by_lines() -> Result<(), Fail> {
     let rt = HostRuntime;
     let alloc = rt.alloc();
-    let text: &[u8] = b"x _ZN3foo17h05af221e174051e9E\n_RNvC5crate4main _RCs_3foo _ZN1a1bE__RC1a";
+    let text: &[u8] = b"x _ZN3foo17h05af221e174051e9E\n_RNvC5crate4main _RNvC1a1b _ZN1a1bE__RC1a";
     for len in 0..=text.len() {
         let prefix = &text[..len];
         for include_hash in [false, true] {
@@ -148,12 +148,12 @@ fn finished_output_is_flushed_before_more_is_read() -> Result<(), Fail> {
     let rt = HostRuntime;
     let alloc = rt.alloc();
     let is_unflushed = Cell::new(false);
-    let text: &[u8] = b"_ZN3fooE\nx_ZN3barE\ny _ZN1aE";
+    let text: &[u8] = b"_ZN3fooE\nx _ZN3barE\ny _ZN1aE";
     let reader = WatchingReader::new(text, &is_unflushed);
     let mut output = WatchedWriter::new(Vec::new(alloc), &is_unflushed);
     let (ended, _) = run_one(alloc, reader, &mut output, false)?;
     assert_eq!(ended, FilterOutcome::Complete);
-    assert_eq!(output.held(), b"foo\nx_ZN3barE\ny a".as_slice());
+    assert_eq!(output.held(), b"foo\nx bar\ny a".as_slice());
     assert!(!is_unflushed.get());
     Ok(())
 }

@@ -3,20 +3,22 @@ use super::alloc::Global;
 use super::rt::HostRuntime;
 use std::fs;
 pub use std::fs::{Metadata, Permissions};
-use std::io::{self, Read, Write};
+use std::io::{self, Read, Seek, Write};
 
 pub trait Files {
-    type File: Read + Write + OpenFile;
+    type File: Read + Write + Seek + OpenFile;
 
     fn open_file(&self, how: &OpenOptions, path: &str) -> io::Result<Self::File>;
 
     fn metadata(&self, path: &str) -> io::Result<Metadata>;
 
+    fn symlink_metadata(&self, path: &str) -> io::Result<Metadata>;
+
     fn rename(&self, from: &str, to: &str) -> io::Result<()>;
 
     fn remove_file(&self, path: &str) -> io::Result<()>;
 
-    fn canonicalize(&self, alloc: Global, path: &str) -> io::Result<PathBuf>;
+    fn read_link(&self, alloc: Global, path: &str) -> io::Result<PathBuf>;
 }
 
 pub trait OpenFile {
@@ -47,6 +49,10 @@ impl Files for HostRuntime {
         fs::metadata(path)
     }
 
+    fn symlink_metadata(&self, path: &str) -> io::Result<Metadata> {
+        fs::symlink_metadata(path)
+    }
+
     fn rename(&self, from: &str, to: &str) -> io::Result<()> {
         fs::rename(from, to)
     }
@@ -55,8 +61,8 @@ impl Files for HostRuntime {
         fs::remove_file(path)
     }
 
-    fn canonicalize(&self, _alloc: Global, path: &str) -> io::Result<PathBuf> {
-        let path = fs::canonicalize(path)?.into_os_string().into_string();
+    fn read_link(&self, _alloc: Global, path: &str) -> io::Result<PathBuf> {
+        let path = fs::read_link(path)?.into_os_string().into_string();
         Ok(PathBuf(path.map_err(|_| {
             io::Error::from(io::ErrorKind::InvalidData)
         })?))
@@ -84,6 +90,11 @@ impl OpenOptions {
         OpenOptions(fs::OpenOptions::new())
     }
 
+    pub fn read(&mut self, read: bool) -> &mut OpenOptions {
+        self.0.read(read);
+        self
+    }
+
     pub fn write(&mut self, write: bool) -> &mut OpenOptions {
         self.0.write(write);
         self
@@ -104,8 +115,6 @@ pub struct File;
 
 impl File {
     pub fn open<F: Files>(files: &F, path: &str) -> io::Result<F::File> {
-        let mut how = OpenOptions::new();
-        how.0.read(true);
-        how.open(files, path)
+        OpenOptions::new().read(true).open(files, path)
     }
 }

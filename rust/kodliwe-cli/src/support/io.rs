@@ -52,10 +52,6 @@ impl<W: Write> BufWriter<W> {
     pub fn with_capacity(_alloc: Global, capacity: usize, writer: W) -> io::Result<Self> {
         Ok(BufWriter(io::BufWriter::with_capacity(capacity, writer)))
     }
-
-    pub fn get_ref(&self) -> &W {
-        self.0.get_ref()
-    }
 }
 
 impl<W: Write> Write for BufWriter<W> {

@@ -26,6 +26,8 @@ pub struct SinkRefused;
 /// Takes pieces of text until it rejects one.
 ///
 /// An empty piece is always taken.
+///
+/// A sink that does not hold its text leaves out `can_copy`, `held_len` and `put_again`.
 pub trait TextSink {
     /// Takes a piece.
     ///

@@ -82,6 +82,8 @@ pub fn demangle(s: &str, is_ascii: bool) -> Result<(Demangle<'_>, &str), ParseEr
 pub enum Printed<'s> {
     /// The text is this symbol with this suffix, and its first path was printed.
     Symbol(Demangle<'s>, &'s str),
+    /// The text is this symbol with this suffix, and its first path was printed up to a limit.
+    Cut(Demangle<'s>, &'s str),
     /// The text is this symbol with this suffix. A part of the first path may be printed.
     Part(Demangle<'s>, &'s str),
     /// The text is not a symbol. A part of a path may be printed.
@@ -98,6 +100,8 @@ pub struct FirstPrint {
     pub form: Form,
     /// How many more bytes may be passed to the sink after the text was validated.
     pub withheld: usize,
+    /// How much fuel the references of a path used up that was not printed.
+    pub fuel: usize,
 }
 
 /// Reads a v0 symbol and prints its first path: with hashes or without them, and with its generic
@@ -110,7 +114,7 @@ pub struct FirstPrint {
 pub fn demangle_printed<'s, S: TextSink>(
     s: &'s str,
     out: &mut SizeLimitedFmtAdapter<'_, S>,
-    first: FirstPrint,
+    first: &mut FirstPrint,
 ) -> Printed<'s> {
     let Some(inner) = ascii_inner_of(s, true) else {
         return Printed::NoSymbol;
@@ -123,8 +127,9 @@ pub fn demangle_printed<'s, S: TextSink>(
         symbol: &symbol,
         form: first.form,
     };
-    match print_to_suffix(source, out, first.withheld) {
+    match print_to_suffix(source, out, first) {
         Attempt::Printed(end) => Printed::Symbol(Demangle::new(symbol), &inner[end..]),
+        Attempt::Cut(end) => Printed::Cut(Demangle::new(symbol), &inner[end..]),
         Attempt::Read(end) => Printed::Part(Demangle::new(symbol), &inner[end..]),
         Attempt::NoPath => Printed::NoSymbol,
         Attempt::Unknown => Printed::Unknown,

@@ -43,7 +43,7 @@ fn print_above<S: TextSink>(
         // An impl path only identifies the impl, and arguments may be folded. They are read and
         // not printed.
         if !is_aside(next, parser.source.form) {
-            continuation = parser.steps(next, true, out)?;
+            continuation = parser.steps(next, out)?;
         } else if is_target(next) {
             parser.continuation = next;
             let Some(following) = run_target(parser, out, scope) else {

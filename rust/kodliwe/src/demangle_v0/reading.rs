@@ -15,7 +15,7 @@ pub fn read_steps(parser: &mut Parser<'_, '_>, base: usize) -> ReadOutcome {
             parser.continuation = Continuation::End;
             return ReadOutcome::Complete;
         };
-        match parser.steps(next, true, &mut NoOutput) {
+        match parser.steps(next, &mut NoOutput) {
             Ok(following) => continuation = following,
             Err(_) => return ReadOutcome::Failed,
         }

@@ -41,8 +41,7 @@ fn continue_after(parser: &mut Parser<'_, '_>, printing: Checkpoint, place: Opti
 
 /// Reads the rest of a part that is not printed, if `left` is in one, and continues after it.
 /// Returns what is left to print if the stack is full before the part ends.
-// It is not inlined, so that the loop of printing stays small.
-#[inline(never)]
+#[cfg_attr(not(debug_assertions), inline(always))]
 pub fn finish_skip(parser: &mut Parser<'_, '_>, left: Unfinished) -> Option<Unfinished> {
     let Unfinished::Skipping(base, printing) = left else {
         return None;

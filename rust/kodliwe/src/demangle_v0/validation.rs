@@ -6,6 +6,8 @@ use crate::demangle_sink::{SizeLimitedFmtAdapter, TextSink};
 use crate::demangle_symbol::cursor::Symbol;
 use crate::demangle_symbol::form::Form;
 #[cfg(feature = "stream")]
+use crate::demangle_v0::FirstPrint;
+#[cfg(feature = "stream")]
 use crate::demangle_v0::printer::{end_within, print_validated, print_within};
 use crate::demangle_v0::reading::read_steps;
 use crate::demangle_v0::stacks::{FULL_STACK, MIDDLE_STACK, SHORT_STACK};
@@ -108,6 +110,8 @@ pub fn begins_path(symbol: &Symbol<'_>, place: usize) -> bool {
 pub enum Attempt {
     /// The first path was printed, and the suffix begins at this place.
     Printed(usize),
+    /// The suffix begins at this place, and the first path was printed up to a limit.
+    Cut(usize),
     /// The suffix begins at this place. A part of the first path may be printed.
     Read(usize),
     /// A path has an error. A part of the first path may be printed.
@@ -158,18 +162,19 @@ fn printed_first<S: TextSink>(
     if !may_begin_suffix(parser.source.symbol, end) {
         return Attempt::Read(end);
     }
-    let is_printed = match left {
-        None => true,
+    match left {
+        None => Attempt::Printed(end),
         Some(Unfinished::Printing) => {
-            out.allow_more(withheld);
-            print_validated(parser, out).is_ok()
+            let are_all_allowed = out.allow_more(withheld);
+            if print_validated(parser, out).is_ok() {
+                Attempt::Printed(end)
+            } else if are_all_allowed && out.is_limit_reached() {
+                Attempt::Cut(end)
+            } else {
+                Attempt::Read(end)
+            }
         }
-        Some(Unfinished::Skipping(_, _)) => false,
-    };
-    if is_printed {
-        Attempt::Printed(end)
-    } else {
-        Attempt::Read(end)
+        Some(Unfinished::Skipping(_, _)) => Attempt::Read(end),
     }
 }
 
@@ -177,16 +182,22 @@ fn printed_first<S: TextSink>(
 /// then.
 ///
 /// The path is printed before it is known whether the symbol is valid, until the fuel is used up.
-/// Then the symbol is validated, and only the rest of a valid one is printed, with `withheld` more
-/// bytes.
+/// Then the symbol is validated, and only the rest of a valid one is printed, with the bytes that
+/// `first` withheld. If the path was not printed, the fuel of `first` is set.
 #[cfg(feature = "stream")]
 pub fn print_to_suffix<S: TextSink>(
     source: Source<'_>,
     out: &mut SizeLimitedFmtAdapter<'_, S>,
-    withheld: usize,
+    first: &mut FirstPrint,
 ) -> Attempt {
     let mut memory = [UNUSED_FRAME; SHORT_STACK];
     let mut parser = Parser::at_path(source, 0, &mut memory);
     parser.fuel = Fuel::for_run(source.symbol.len());
-    printed_first(&mut parser, out, withheld)
+    let result = printed_first(&mut parser, out, first.withheld);
+
+    match result {
+        Attempt::Printed(_) => {}
+        _ => first.fuel = parser.fuel.used_within(),
+    }
+    result
 }

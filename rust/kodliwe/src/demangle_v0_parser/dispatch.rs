@@ -10,19 +10,18 @@ use crate::demangle_v0_parser::{Continuation, StepError};
 use crate::demangle_v0_tokens::output::Output;
 
 impl Parser<'_, '_> {
-    /// Performs a continuation, and returns the one to run next. If `defers` is true, a path is
-    /// performed with those that are nested in one another, and with their names.
+    /// Performs a continuation, and returns the one to run next. A path is performed with those that
+    /// are nested in one another, and with their names.
     ///
     /// An impl path and folded arguments are only read here if nothing is printed.
     #[cfg_attr(not(debug_assertions), inline(always))]
     pub(super) fn dispatch<V: Output>(
         &mut self,
         continuation: Continuation,
-        defers: bool,
         output: &mut V,
     ) -> Result<Continuation, StepError> {
         match continuation {
-            Continuation::Path => self.path(defers, output),
+            Continuation::Path => self.path(output),
             Continuation::NestedName => self.nested_name(output),
             Continuation::InherentImplPath => Ok(self.read_impl_path(false)),
             Continuation::TraitImplPath => Ok(self.read_impl_path(true)),

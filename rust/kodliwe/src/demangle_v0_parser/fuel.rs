@@ -84,6 +84,20 @@ impl Fuel {
         }
     }
 
+    /// Returns how much fuel the steps within references used up. Within one that was not left, this
+    /// is more if all fuel was used up at once.
+    #[cfg(feature = "stream")]
+    #[cfg_attr(not(debug_assertions), inline(always))]
+    pub fn used_within(&self) -> usize {
+        let earned = self.outer.saturating_mul(EARNED_FUEL);
+        let left = if self.is_inside {
+            self.left
+        } else {
+            self.reserve
+        };
+        earned.saturating_add(FIRST_FUEL).saturating_sub(left)
+    }
+
     /// Uses up the fuel of a step, if the parse has a budget. Returns `false` if there is too little.
     #[cfg_attr(not(debug_assertions), inline(always))]
     pub fn pay_step(&mut self, has_budget: bool) -> bool {

@@ -38,20 +38,16 @@ impl Parser<'_, '_> {
 
     /// Reads the tag of a path, and starts the path one level deeper.
     ///
-    /// If `defers` is true, the tags of paths that are nested in one another are read together, up to
-    /// a namespace in upper case or until the stack is nearly full. If they end at a crate, the names
-    /// are read and printed after its own, and without output also after a back reference. Otherwise
-    /// a frame is pushed for each of them.
+    /// The tags of paths that are nested in one another are read together, up to a namespace in upper
+    /// case or until the stack is nearly full. If they end at a crate, the names are read and printed
+    /// after its own, and without output also after a back reference. Otherwise a frame is pushed for
+    /// each of them.
     ///
     /// Fails if a part that it reads has an error, if the depth is used up, or if the output rejects
     /// a piece.
     // Most paths are nested in two or three others, and their names need no steps of their own.
     #[cfg_attr(not(debug_assertions), inline(always))]
-    pub(super) fn path<V: Output>(
-        &mut self,
-        defers: bool,
-        output: &mut V,
-    ) -> Result<Continuation, StepError> {
+    pub(super) fn path<V: Output>(&mut self, output: &mut V) -> Result<Continuation, StepError> {
         let mut at = self.state.place_or_abort()?;
         let outer = self.state.depth_left;
         let mut count: u16 = 0;
@@ -84,10 +80,7 @@ impl Parser<'_, '_> {
                 self.push_names(count, outer);
                 return Err(StepError::Abort(FixedText::Invalid));
             };
-            if !defers
-                | letter.is_ascii_uppercase()
-                | (self.stack.room_left() <= usize::from(count) + 1)
-            {
+            if letter.is_ascii_uppercase() | (self.stack.room_left() <= usize::from(count) + 1) {
                 self.push_names(count, outer);
                 self.state.depth_left = left;
                 self.state.place = Some(after);

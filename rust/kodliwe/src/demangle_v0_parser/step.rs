@@ -35,8 +35,8 @@ impl Parser<'_, '_> {
     }
 
     /// Runs a continuation, which may read and print a token, and prints the fixed text that it
-    /// queued. Returns the next continuation. If `defers` is true, a path is run together with those
-    /// that are nested in one another, and with their names.
+    /// queued. Returns the next continuation. A path is run together with those that are nested in
+    /// one another, and with their names, one step after another.
     ///
     /// Fails if the output does. A parse that prints never runs an impl path or folded arguments
     /// here, because those are not printed.
@@ -44,10 +44,9 @@ impl Parser<'_, '_> {
     pub fn steps<V: Output>(
         &mut self,
         continuation: Continuation,
-        defers: bool,
         output: &mut V,
     ) -> Result<Continuation, SinkRefused> {
-        match self.dispatch(continuation, defers, output) {
+        match self.dispatch(continuation, output) {
             Ok(next) => {
                 self.flush_pending_text(output)?;
                 Ok(next)

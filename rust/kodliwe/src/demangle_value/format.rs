@@ -91,6 +91,17 @@ pub struct TextFormat {
     pub reread: Option<usize>,
 }
 
+impl TextFormat {
+    /// Returns a format with the limits of a text of so many bytes.
+    pub fn for_text(format: Format, len: usize) -> TextFormat {
+        TextFormat {
+            form: format.form,
+            limit: format.limit.bytes_within(len),
+            reread: format.reread.reread_within(len),
+        }
+    }
+}
+
 impl Format {
     /// Returns the format with generic arguments, with or without the hash, that cuts the path of a
     /// symbol at `limit` bytes.
@@ -125,15 +136,6 @@ impl Format {
             form,
             limit,
             reread: RereadLimit::Linear,
-        }
-    }
-
-    /// Returns the format with the limits of a text of so many bytes.
-    pub fn for_text(self, len: usize) -> TextFormat {
-        TextFormat {
-            form: self.form,
-            limit: self.limit.bytes_within(len),
-            reread: self.reread.reread_within(len),
         }
     }
 }

@@ -8,7 +8,7 @@ mod strip;
 pub mod value;
 
 use strip::without_thin_lto;
-use value::Demangle;
+use value::{Demangle, has_style};
 
 /// The error for a text that is not a Rust symbol.
 #[derive(Debug, Clone)]
@@ -27,7 +27,7 @@ pub fn demangle(s: &str) -> Demangle<'_> {
 /// Parses a text as a Rust symbol, as `try_demangle` does. Fails if it is not a symbol.
 pub fn try_demangle(s: &str) -> Result<Demangle<'_>, TryDemangleError> {
     let symbol = demangle(s);
-    if symbol.has_style() {
+    if has_style(&symbol) {
         Ok(symbol)
     } else {
         Err(TryDemangleError { _priv: () })

@@ -132,14 +132,16 @@ impl<'a> Demangle<'a> {
         let allowed = is_allowed(suffix);
         Demangle::with_style(text, style, suffix, allowed)
     }
+}
 
-    /// Parses a run as a symbol. Keeps it as it is if it is not one. A run is ASCII.
-    pub fn read_run(run: &'a str) -> Demangle<'a> {
-        Demangle::read(without_thin_lto(run), true)
-    }
+// Free functions for the crate above, which does not export them. A method would be public there too.
 
-    /// Returns whether the text is a symbol.
-    pub fn has_style(&self) -> bool {
-        self.style.is_some()
-    }
+/// Parses a run as a symbol. Keeps it as it is if it is not one. A run is ASCII.
+pub fn read_run(run: &str) -> Demangle<'_> {
+    Demangle::read(without_thin_lto(run), true)
+}
+
+/// Returns whether a text is a symbol.
+pub fn has_style(text: &Demangle<'_>) -> bool {
+    text.style.is_some()
 }

@@ -11,21 +11,37 @@ pub const MOST_GROWN: usize = 1_024_000;
 /// The number of bytes that are allocated first. They double when they are full.
 const FIRST_GROWN: usize = 4096;
 
+/// The most bytes of memory that can grow. If more are needed, `MOST_GROWN` are allocated.
+const HALF_GROWN: usize = 512_000;
+
+/// Returns how many bytes to allocate if the memory has `len` and needs `needed`.
+fn grown_len(len: usize, needed: usize) -> usize {
+    let doubled = len.saturating_mul(2).max(FIRST_GROWN).max(needed);
+    if doubled > HALF_GROWN {
+        MOST_GROWN
+    } else {
+        doubled
+    }
+}
+
 /// Allocates longer memory for `more` bytes after the first `len`, which are copied to it. Returns
 /// `false` if memory can't be allocated, or if there would be more bytes than `MOST_GROWN`. Then the
 /// memory is unchanged.
+///
+/// The memory before is freed after its bytes are copied. Until then, both are allocated.
 #[inline(never)]
 fn grow(memory: &mut Vec<u8>, len: usize, more: usize, alloc: Global) -> bool {
     if len > MOST_GROWN || more > MOST_GROWN - len {
         return false;
     }
-    let doubled = memory.len().saturating_mul(2).max(FIRST_GROWN);
+    let longer_len = grown_len(memory.len(), len + more);
+    let most = if longer_len < MOST_GROWN {
+        HALF_GROWN
+    } else {
+        MOST_GROWN
+    };
     let mut longer = Vec::new(alloc);
-    if longer
-        .resize(doubled.max(len + more).min(MOST_GROWN), 0)
-        .is_err()
-        || longer.capacity() > MOST_GROWN
-    {
+    if longer.resize(longer_len, 0).is_err() || longer.capacity() > most {
         return false;
     }
     copy(&memory[..len], &mut longer);
@@ -69,7 +85,8 @@ impl GrowingBuffer {
         self.len
     }
 
-    /// Returns the number of bytes of memory that the buffer has allocated.
+    /// Returns the number of bytes of memory that the buffer has allocated. While it grows, the memory
+    /// before is allocated too: together at most `MOST_GROWN + HALF_GROWN` (`both` of `grow`).
     #[cfg(all(test, feature = "stream"))]
     pub fn allocated(&self) -> usize {
         self.memory.capacity()

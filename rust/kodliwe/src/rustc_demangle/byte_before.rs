@@ -10,10 +10,8 @@ use crate::rustc_demangle::runs::starts_run;
 pub enum ByteBefore {
     /// Nothing, or a byte that is not a run byte. A run takes in a single `_` after it.
     Outside,
-    /// An ASCII letter or digit. A run directly after it is not replaced.
-    Alphanumeric,
-    /// `_`, `.` or `$`.
-    Mark,
+    /// A run byte.
+    Inside,
 }
 
 // A filter calls some of these methods at each run. They are inlined, as each is a few instructions.
@@ -21,13 +19,8 @@ impl ByteBefore {
     /// Returns what a byte is for the text after it.
     #[cfg_attr(not(debug_assertions), inline(always))]
     fn of(byte: u8) -> Self {
-        // Most text before a run ends with a space.
-        if byte <= b' ' {
-            ByteBefore::Outside
-        } else if byte.is_ascii_alphanumeric() {
-            ByteBefore::Alphanumeric
-        } else if is_run_byte(byte) {
-            ByteBefore::Mark
+        if is_run_byte(byte) {
+            ByteBefore::Inside
         } else {
             ByteBefore::Outside
         }
@@ -41,12 +34,6 @@ impl ByteBefore {
         } else {
             ByteBefore::of(text[text.len() - 1])
         }
-    }
-
-    /// Returns whether this is a letter or digit.
-    #[cfg_attr(not(debug_assertions), inline(always))]
-    pub(crate) fn is_alphanumeric(self) -> bool {
-        matches!(self, ByteBefore::Alphanumeric)
     }
 
     /// Returns whether this is outside of runs.
@@ -77,4 +64,13 @@ impl ByteBefore {
             text.len()
         }
     }
+}
+
+/// Returns the length of the plain text before a run, without a single `_` at its end. The path of
+/// the run takes the place of that `_` too.
+///
+/// The plain text starts where the whole text does, or after the run before it. A `_` is single if
+/// it is the first byte or follows a byte that no run may have.
+pub fn plain_len(plain: &[u8]) -> usize {
+    ByteBefore::Outside.plain_len(plain)
 }

@@ -13,10 +13,10 @@ pub use crate::demangle_value::format::{Format, RereadLimit, SizeLimit};
 pub use crate::demangle_value::value::Demangle;
 pub use crate::demangle_value::value::printing::write_with_path_len;
 pub use crate::demangle_value::{demangle, try_demangle};
-#[cfg(all(test, feature = "stream"))]
-pub use runs::run_len;
 #[cfg(feature = "stream")]
 pub use runs::run_start;
+#[cfg(all(test, feature = "stream"))]
+pub use runs::{run_len, stays};
 pub use slice::{demangle_slice, demangle_slice_formatted};
 #[cfg(feature = "stream")]
 pub use stream::{

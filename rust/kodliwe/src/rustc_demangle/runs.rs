@@ -143,6 +143,43 @@ pub fn run_len(text: &[u8]) -> usize {
     at
 }
 
+/// Returns whether a filter of bytes keeps this candidate because its run begins with `_RC`. A
+/// candidate is a run, or a run with the single `_` before it.
+///
+/// A symbol that begins so is a crate alone. Compilers make none, and names such as `v1.0_RC0` are
+/// spelled so.
+#[cfg(all(test, feature = "stream"))]
+#[cfg_attr(not(debug_assertions), inline(always))]
+pub fn stays(candidate: &[u8]) -> bool {
+    candidate.starts_with(b"_RC") || candidate.starts_with(b"__RC")
+}
+
+/// Returns whether this byte is the tag of a path of the v0 scheme that is more than a crate.
+#[cfg_attr(not(debug_assertions), inline(always))]
+fn begins_longer_path(tag: u8) -> bool {
+    matches!(tag, b'N' | b'M' | b'X' | b'Y' | b'I' | b'B')
+}
+
+/// Returns whether a filter of bytes may replace this candidate. Returns `false` if its run begins
+/// with `_RC`, or with `_R` and a byte that is no tag of a path, as in `config_Release`.
+#[cfg_attr(not(debug_assertions), inline(always))]
+pub(crate) fn may_be_replaced(candidate: &[u8]) -> bool {
+    if candidate.len() < 3 {
+        return true;
+    }
+    // Most symbols begin with `_RN` or `_ZN`.
+    if candidate[2] == b'N' {
+        return true;
+    }
+    if candidate[1] == b'R' {
+        return begins_longer_path(candidate[2]);
+    }
+    if candidate.len() > 3 && ((candidate[1] == b'_') & (candidate[2] == b'R')) {
+        return begins_longer_path(candidate[3]);
+    }
+    true
+}
+
 /// Returns the text of a run, which is ASCII.
 pub(crate) fn run_text(run: &[u8]) -> &str {
     // SAFETY: a run is ASCII.

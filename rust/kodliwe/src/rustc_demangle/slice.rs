@@ -2,25 +2,22 @@
 //! Demangles the symbols of any bytes in memory.
 
 use crate::demangle_sink::{SinkRefused, SliceSink};
-use crate::rustc_demangle::byte_before::ByteBefore;
-use crate::rustc_demangle::runs::{run_len, run_start, run_text};
+use crate::rustc_demangle::byte_before::plain_len;
+use crate::rustc_demangle::runs::{may_be_replaced, run_len, run_start, run_text};
 use crate::rustc_demangle::text::put_run;
 
 use crate::demangle_value::format::{Format, SizeLimit, unfolded_form};
 
-impl ByteBefore {
-    /// Writes the replacement of a candidate that follows this. Fails if the sink fails.
-    fn put_candidate<'b>(
-        self,
-        candidate: &[u8],
-        out: &mut SliceSink<'b>,
-        format: Format,
-    ) -> Result<(), SinkRefused> {
-        if self.is_alphanumeric() {
-            return out.put_bytes(candidate);
-        }
-        put_run(run_text(candidate), out, format)
+/// Writes the replacement of a candidate. Fails if the sink fails.
+fn put_candidate<'b>(
+    candidate: &[u8],
+    out: &mut SliceSink<'b>,
+    format: Format,
+) -> Result<(), SinkRefused> {
+    if !may_be_replaced(candidate) {
+        return out.put_bytes(candidate);
     }
+    put_run(run_text(candidate), out, format)
 }
 
 /// Writes bytes, which need not be UTF-8, with each symbol of them demangled. Fails if the sink
@@ -28,11 +25,10 @@ impl ByteBefore {
 fn put_slice<'b>(text: &[u8], out: &mut SliceSink<'b>, format: Format) -> Result<(), SinkRefused> {
     let mut rest = text;
     while let Some(start) = run_start(rest) {
-        let before = ByteBefore::Outside;
-        let (kept, found) = rest.split_at(before.plain_len(&rest[..start]));
+        let (kept, found) = rest.split_at(plain_len(&rest[..start]));
         let (candidate, following) = found.split_at(run_len(found));
         out.put_bytes(kept)?;
-        before.after(kept).put_candidate(candidate, out, format)?;
+        put_candidate(candidate, out, format)?;
         rest = following;
     }
     out.put_bytes(rest)

@@ -68,7 +68,8 @@ fn copy_lines<R: BufRead, W: Write, A: Allocator>(
 ///
 /// A candidate symbol starts with `_ZN` or `_R`. It continues up to the next character that is not
 /// an ASCII letter, a digit, `$`, `.` or `_`. A candidate that is not a symbol is written
-/// unchanged. A line is read completely before any of it is written.
+/// unchanged. A symbol that begins with `_RC` is replaced too, unlike by `demangle_bytes`. A line is
+/// read completely before any of it is written.
 ///
 /// # Errors
 ///

@@ -5,7 +5,8 @@ use crate::demangle_sink::{SinkRefused, TextSink, put_piece};
 use crate::rustc_demangle::runs::{run_len, run_start};
 
 use crate::demangle_value::format::{Format, MAX_SIZE};
-use crate::demangle_value::value::Demangle;
+use crate::demangle_value::value::printing::write_pieces;
+use crate::demangle_value::value::{has_style, read_run};
 
 /// Writes the replacement of a run: the pieces of its symbol, or the run itself if it is not a
 /// symbol. Fails if the sink fails.
@@ -14,9 +15,9 @@ pub(crate) fn put_run<S: TextSink>(
     out: &mut S,
     format: Format,
 ) -> Result<(), SinkRefused> {
-    let symbol = Demangle::read_run(run);
-    if symbol.has_style() {
-        symbol.write_pieces(out, format)
+    let symbol = read_run(run);
+    if has_style(&symbol) {
+        write_pieces(&symbol, out, format)
     } else {
         put_piece(run, out)
     }
@@ -39,9 +40,10 @@ fn put_text<S: TextSink>(text: &str, out: &mut S, format: Format) -> Result<(), 
 /// before its suffix, as by `Demangle::write_limited`.
 ///
 /// A candidate symbol, or run, starts with `_ZN` or `_R`. It continues up to the next character
-/// that is not an ASCII letter, a digit, `$`, `.` or `_`. The text between two runs is one piece,
-/// and a run that is not a symbol is another. Each piece is passed to the sink by one `put`. If the
-/// sink has room for all pieces, the call succeeds. It does not allocate.
+/// that is not an ASCII letter, a digit, `$`, `.` or `_`. A symbol that begins with `_RC` is replaced
+/// too, unlike by `demangle_slice`. The text between two runs is one piece, and a run that is not a
+/// symbol is another. Each piece is passed to the sink by one `put`. If the sink has room for all
+/// pieces, the call succeeds. It does not allocate.
 ///
 /// # Errors
 ///

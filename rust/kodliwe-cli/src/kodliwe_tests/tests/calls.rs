@@ -16,11 +16,11 @@ use std::io::ErrorKind;
 
 use crate::support::test::Fail;
 
-const TEXT: &[u8] = b"__ZN3fooE x\n_RCs_3foo \xFF _ZN3foo4headE\n_R_ZN3fooE \
+const TEXT: &[u8] = b"__ZN3fooE x\n_RNvC1a1b \xFF _ZN3foo4headE\n_R_ZN3fooE \
     _ZN3fooE.llvm.9D1C9369@@16 _ZN3foo17h05af221e174051e9E";
 
 /// The text without hashes.
-const FILTERED: &[u8] = b"foo x\nfoo \xFF foo\n_R_ZN3fooE foo@@16 foo";
+const FILTERED: &[u8] = b"foo x\na::b \xFF foo\n_R_ZN3fooE foo@@16 foo";
 
 /// The capacities, in bytes, of the buffer below an output.
 const CAPACITIES: [usize; 4] = [0, 1, 5, BUFFER];
@@ -31,7 +31,7 @@ const KNOWN_AT: [(usize, &[u8]); 13] = [
     (10, b"foo "),
     (11, b"x"),
     (12, b"\n"),
-    (22, b"foo "),
+    (22, b"a::b "),
     (23, b"\xFF"),
     (24, b" "),
     (38, b"foo\n"),

@@ -28,28 +28,29 @@ fn write_cut<S: TextSink>(
     }
 }
 
-impl Demangle<'_> {
-    /// Writes the pieces of the symbol into a sink, cut at the limit before the suffix. Fails if
-    /// the sink fails.
-    pub fn write_pieces<S: TextSink>(
-        &self,
-        out: &mut S,
-        format: Format,
-    ) -> Result<(), SinkRefused> {
-        let Some(style) = &self.style else {
-            return put_piece(self.original, out);
-        };
-        write_cut(style, out, format.for_text(self.original.len()))?;
-        put_piece(self.suffix, out)
-    }
+/// Writes the pieces of a symbol into a sink, cut at the limit before the suffix. Fails if the sink
+/// fails.
+pub fn write_pieces<S: TextSink>(
+    symbol: &Demangle<'_>,
+    out: &mut S,
+    format: Format,
+) -> Result<(), SinkRefused> {
+    let Some(style) = &symbol.style else {
+        return put_piece(symbol.original, out);
+    };
+    let limits = TextFormat::for_text(format, symbol.original.len());
+    write_cut(style, out, limits)?;
+    put_piece(symbol.suffix, out)
+}
 
+impl Demangle<'_> {
     /// Prints into a sink in a format, as `write_limited` does.
     pub fn write_formatted<S: TextSink>(
         &self,
         out: &mut S,
         format: Format,
     ) -> Result<(), SinkRefused> {
-        self.write_pieces(out, format)
+        write_pieces(self, out, format)
     }
 
     /// Prints into a sink, cut at `limit` bytes before the suffix.
@@ -162,64 +163,84 @@ pub enum Tried<'a> {
     Printed,
     /// The run was read as this text, symbol or not. A part of a path may be printed.
     Read(Demangle<'a>),
-    /// Nothing is known, and a part of a path may be printed. `Demangle::read_run` says what the run
-    /// is.
+    /// Nothing is known, and a part of a path may be printed. `read_run` says what the run is.
     Unknown,
 }
 
 /// Prints a v0 run before it is known to be a symbol, as `demangle_v0::demangle_printed` does. A
-/// run is ASCII. Returns what is known of it then.
+/// run is ASCII. Returns what is known of it then, and how much fuel the references of one that was
+/// not printed used up.
 ///
 /// Nothing is known of a path that is much longer than the run, unless the run was validated before
 /// its end was printed.
 #[cfg(feature = "stream")]
 #[inline(never)]
-pub fn print_v0_run<'a, S: TextSink>(run: &'a str, out: &mut S, format: Format) -> Tried<'a> {
+pub fn print_v0_run<'a, S: TextSink>(
+    run: &'a str,
+    out: &mut S,
+    format: Format,
+) -> (Tried<'a>, usize) {
     let text = without_thin_lto(run);
-    let limits = format.for_text(text.len());
+    let limits = TextFormat::for_text(format, text.len());
     let limit = text_limit(run, limits);
     let mut limited = SizeLimitedFmtAdapter::with_reread(out, limit, limits.reread);
-    let first = FirstPrint {
+    let mut first = FirstPrint {
         form: limits.form,
         withheld: text_withheld(limits, limit),
+        fuel: 0,
     };
-    match crate::demangle_v0::demangle_printed(text, &mut limited, first) {
+    match crate::demangle_v0::demangle_printed(text, &mut limited, &mut first) {
         Printed::Symbol(symbol, suffix) => {
             let allowed = is_allowed(suffix);
             if allowed && put_piece(suffix, out).is_ok() {
-                return Tried::Printed;
+                return (Tried::Printed, 0);
             }
             let style = DemangleStyle::V0(symbol);
-            Tried::Read(Demangle::with_style(text, style, suffix, allowed))
+            let read = Demangle::with_style(text, style, suffix, allowed);
+            (Tried::Read(read), first.fuel)
+        }
+        Printed::Cut(symbol, suffix) => {
+            let allowed = is_allowed(suffix);
+            // With a greater limit, the path was not printed up to it.
+            if allowed && limits.limit <= MAX_SIZE {
+                let marked = put_piece("{size limit reached}", out);
+                if marked.is_ok() && put_piece(suffix, out).is_ok() {
+                    return (Tried::Printed, 0);
+                }
+            }
+            let style = DemangleStyle::V0(symbol);
+            let read = Demangle::with_style(text, style, suffix, allowed);
+            (Tried::Read(read), first.fuel)
         }
         Printed::Part(symbol, suffix) => {
             let allowed = is_allowed(suffix);
             let style = DemangleStyle::V0(symbol);
-            Tried::Read(Demangle::with_style(text, style, suffix, allowed))
+            let read = Demangle::with_style(text, style, suffix, allowed);
+            (Tried::Read(read), first.fuel)
         }
         // A text with the prefix of v0 has not that of the legacy scheme, so this ends at once.
         Printed::NoSymbol => match crate::demangle_legacy::demangle(text, true) {
             Ok((symbol, suffix)) => {
                 let allowed = is_allowed(suffix);
                 let style = DemangleStyle::Legacy(symbol);
-                Tried::Read(Demangle::with_style(text, style, suffix, allowed))
+                let read = Demangle::with_style(text, style, suffix, allowed);
+                (Tried::Read(read), first.fuel)
             }
-            Err(()) => Tried::Read(Demangle::without_style(text)),
+            Err(()) => (Tried::Read(Demangle::without_style(text)), first.fuel),
         },
-        Printed::Unknown => Tried::Unknown,
+        Printed::Unknown => (Tried::Unknown, first.fuel),
     }
 }
 
 /// Prints a run that is a legacy symbol, in one pass. A run is ASCII.
 ///
 /// Returns `false` if the run is not a legacy symbol, as `demangle_legacy::demangle_printed` does.
-/// Then an unknown part of the symbol may be in the sink, and `Demangle::read_run` says what the
-/// run is.
+/// Then an unknown part of the symbol may be in the sink, and `read_run` says what the run is.
 #[cfg(feature = "stream")]
 #[inline(never)]
 pub fn print_legacy_run<S: TextSink>(run: &str, out: &mut S, format: Format) -> bool {
     let text = without_thin_lto(run);
-    let limits = format.for_text(text.len());
+    let limits = TextFormat::for_text(format, text.len());
     let mut limited = SizeLimitedFmtAdapter::new(out, limits.limit);
     let read = crate::demangle_legacy::demangle_printed(text, &mut limited, limits.form);
     let Some((_, suffix)) = read else {
@@ -241,12 +262,13 @@ fn write_pieces_with_path_len<S: TextSink>(
 
     let Some(symbol) = crate::demangle_v0::ascii_symbol(text) else {
         let read = Demangle::read(text, false);
-        return read.write_pieces(out, format);
+        return write_pieces(&read, out, format);
     };
     // The caller may pass any number.
     let suffix = &text[path_len.min(text.len())..];
     let style = DemangleStyle::V0(symbol);
-    write_cut(&style, out, format.for_text(text.len()))?;
+    let limits = TextFormat::for_text(format, text.len());
+    write_cut(&style, out, limits)?;
     put_piece(suffix, out)
 }
 

@@ -2,7 +2,7 @@
 //! Tests of symbols that are cut off.
 use super::printed_by;
 use super::vectors::texts;
-use crate::rustc_demangle::{demangle, demangle_bytes, demangle_stream, try_demangle};
+use crate::rustc_demangle::{demangle, demangle_bytes, demangle_stream, stays, try_demangle};
 use crate::support::alloc::Global;
 use crate::support::rt::HostRuntime;
 use crate::support::vec::CollectIn;
@@ -133,11 +133,19 @@ fn chunks_of_any_size_give_what_the_crate_writes() -> Result<(), Fail> {
             for len in 0..=text.len() {
                 if let Some(beginning) = text.get(..len) {
                     let output = filter_parts(alloc, beginning, size, *include_hash)?;
-                    // The crate keeps the `_` that macOS writes before a symbol.
-                    if takes_underscore(beginning, output.as_slice()) {
-                        digest = digest_of(digest, b"_");
+                    if stays(beginning.as_bytes()) {
+                        // The crate writes its path.
+                        assert!(output.as_slice() == beginning.as_bytes(), "{beginning}");
+                        let path = filter_text(alloc, beginning, *include_hash)?;
+                        digest = digest_of(digest, path.as_slice());
+                    } else {
+                        // The crate keeps the `_` that macOS writes before a symbol.
+                        if takes_underscore(beginning, output.as_slice()) {
+                            digest = digest_of(digest, b"_");
+                        }
+                        digest = digest_of(digest, output.as_slice());
                     }
-                    digest = digest_of(digest_of(digest, output.as_slice()), b"\n");
+                    digest = digest_of(digest, b"\n");
                 }
             }
         }

@@ -29,9 +29,13 @@ fn is_printed_first(text: &str, limit: usize, form: Form) -> bool {
     let mut sink: ArraySink<4096> = ArraySink::new();
     let mut out = SizeLimitedFmtAdapter::new(&mut sink, limit);
 
-    let first = FirstPrint { form, withheld: 0 };
+    let mut first = FirstPrint {
+        form,
+        withheld: 0,
+        fuel: 0,
+    };
     matches!(
-        crate::demangle_v0::demangle_printed(text, &mut out, first,),
+        crate::demangle_v0::demangle_printed(text, &mut out, &mut first,),
         Printed::Symbol(_, "x")
     )
 }
@@ -57,11 +61,12 @@ fn assert_prints_whole(symbol: &str, wanted: &str) {
     let mut sink: ArraySink<4096> = ArraySink::new();
     let mut out = SizeLimitedFmtAdapter::new(&mut sink, 4096);
 
-    let first = FirstPrint {
+    let mut first = FirstPrint {
         form: PLAIN,
         withheld: 0,
+        fuel: 0,
     };
-    let printed = crate::demangle_v0::demangle_printed(symbol, &mut out, first);
+    let printed = crate::demangle_v0::demangle_printed(symbol, &mut out, &mut first);
     assert!(matches!(printed, Printed::Symbol(_, "")), "of {symbol}");
     assert_eq!(sink.as_str(), wanted, "of {symbol}");
 }
@@ -109,12 +114,13 @@ fn is_printed_within(symbol: &str, limit: usize, withheld: usize) -> bool {
     let mut sink: ArraySink<4096> = ArraySink::new();
     let mut out = SizeLimitedFmtAdapter::new(&mut sink, limit);
 
-    let first = FirstPrint {
+    let mut first = FirstPrint {
         form: PLAIN,
         withheld,
+        fuel: 0,
     };
     matches!(
-        crate::demangle_v0::demangle_printed(symbol, &mut out, first,),
+        crate::demangle_v0::demangle_printed(symbol, &mut out, &mut first,),
         Printed::Symbol(_, "")
     )
 }
@@ -213,4 +219,30 @@ fn the_rest_of_a_valid_symbol_is_printed() {
     ] {
         assert_prints_whole(symbol, wanted);
     }
+}
+
+/// Returns how much fuel the references of a text used up before it was known that it is no symbol.
+fn fuel_in_vain(text: &str) -> usize {
+    if !text.is_ascii() {
+        return 0;
+    }
+    let mut sink: ArraySink<4096> = ArraySink::new();
+    let mut out = SizeLimitedFmtAdapter::new(&mut sink, 4096);
+
+    let mut first = FirstPrint {
+        form: PLAIN,
+        withheld: 0,
+        fuel: 0,
+    };
+    match crate::demangle_v0::demangle_printed(text, &mut out, &mut first) {
+        Printed::NoSymbol => first.fuel,
+        _ => 0,
+    }
+}
+
+#[test]
+fn references_of_a_run_in_vain_use_up_fuel() {
+    assert_eq!(fuel_in_vain("_RNvNtC3foo3bar3ba"), 0);
+    assert!(fuel_in_vain("_RINvC3foo3barNtB2_1aNtB2_1b") > 0);
+    assert!(fuel_in_vain("_RIC0TRhB3_B3_B3_B3_") > fuel_in_vain("_RIC0TRhB3_"));
 }

@@ -50,7 +50,7 @@ fn bytes_between_symbols_are_kept() -> Result<(), Fail> {
     let cases: [(&[u8], &[u8]); 10] = [
         (b"caf\xE9 _ZN3fooE\xE9\n", b"caf\xE9 foo\xE9\n"),
         (b"\xFF_ZN3fooE\xFF\n\xFE", b"\xFFfoo\xFF\n\xFE"),
-        (b"\0_ZN3fooE\0_RC1a\0", b"\0foo\0a\0"),
+        (b"\0_ZN3fooE\0_RNvC1a1b\0", b"\0foo\0a::b\0"),
         (b"_ZN3fooE\xC3", b"foo\xC3"),
         (b"_ZN3f\xC3\xA9E", b"_ZN3f\xC3\xA9E"),
         (b"\xC3_R\xA9", b"\xC3_R\xA9"),

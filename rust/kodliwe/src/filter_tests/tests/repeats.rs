@@ -242,6 +242,31 @@ fn a_long_text_is_one_write() -> Result<(), Fail> {
 }
 
 #[test]
+fn a_run_that_is_too_long_for_the_memo_is_one_write() -> Result<(), Fail> {
+    let rt = HostRuntime;
+    let alloc = rt.alloc();
+    let mut suffix = Vec::new(alloc);
+    suffix.push(b'.')?;
+    for _ in 0..2_048u32 {
+        suffix.push(b'x')?;
+    }
+    let mut text = Vec::new(alloc);
+    text.extend_from_slice(LONG)?;
+    text.extend_from_slice(suffix.as_slice())?;
+    let mut printed = long_text(alloc)?;
+    printed.extend_from_slice(suffix.as_slice())?;
+    let mut input = text.as_slice();
+    let mut output = RecordingWriter::new(alloc);
+    let result = demangle_bytes_limited(alloc, &mut input, &mut output, true, 1_000_000);
+    result.map_err(|fault| fault.into_io())?;
+    let [path] = output.writes() else {
+        return Err("the symbol is one write".into());
+    };
+    assert_eq!(path.as_slice(), printed.as_slice());
+    Ok(())
+}
+
+#[test]
 fn a_long_text_is_noted() -> Result<(), Fail> {
     let rt = HostRuntime;
     let alloc = rt.alloc();

@@ -27,7 +27,7 @@ pub(super) const ROWS: [(&[u8], &[u8]); 17] = [
     (b"x _RCx _ZN3fooE", b"x _RCx foo"),
     (b"_Z _ZN_ _R", b"_Z _ZN_ _R"),
     (b"a\n\nb _ZN1aE\nc", b"a\n\nb a\nc"),
-    (b"_ZN3fooE,_RC1a", b"foo,a"),
+    (b"_ZN3fooE,_RNvC1a1b", b"foo,a::b"),
     (b"_RMC0FG_RL0_hEu\n", b"<for<'a> fn(&'a u8)>\n"),
     (b"_R_RC1a _RC1a_RC1b", b"_R_RC1a _RC1a_RC1b"),
     (b"x _ZN8$RF$testE y", b"x &test y"),

@@ -36,8 +36,8 @@ impl<A: Allocator> BytesFilter<A> {
     /// # Errors
     ///
     /// Fails if the reader or the writer fails, or if memory can't be allocated. If the reader or
-    /// an allocation fails, nothing is consumed and nothing is written. The caller can then repeat
-    /// the step, for example after an interrupted read.
+    /// an allocation fails, nothing is consumed, nothing is written and no look is made. The caller
+    /// can then repeat the step, for example after an interrupted read.
     pub fn step<R: BufRead, W: Write>(
         &mut self,
         input: &mut R,
@@ -65,14 +65,15 @@ impl<A: Allocator> BytesFilter<A> {
 ///
 /// A candidate symbol, or run, starts with `_ZN` or `_R`. It continues up to the next byte that is
 /// not an ASCII letter, a digit, `$`, `.` or `_`. A run that is not a symbol is written unchanged,
-/// and so is one directly after an ASCII letter or digit. A path also replaces a single `_` before
-/// its run, if that `_` is the first byte or follows a byte that no run may have.
+/// and so is one that begins with `_RC`. A path also replaces a single `_` before its run, if that
+/// `_` is the first byte or follows a byte that no run may have.
 ///
 /// The input is read in the reader's chunks and not by lines. The bytes of a chunk between two runs
 /// are one write. Memory holds the unfinished run at the end of the bytes so far, and a
-/// `SymbolMemo`. So a v0 symbol of 20 to 2,048 bytes is one write, and so is such a legacy symbol
-/// with a hash. If it prints more than 2,048 bytes, it is written in parts if `limit` is over
-/// 1,000,000, or if memory for it can't be allocated. Each piece of another symbol is one write.
+/// `SymbolMemo`. So a v0 symbol of at least 20 bytes is one write, and so is a legacy symbol of 20
+/// to 2,048 bytes with a hash. If it prints more than 2,048 bytes, it is written in parts if `limit`
+/// is over 1,000,000, or if memory for it can't be allocated. Each piece of another symbol is one
+/// write.
 ///
 /// # Errors
 ///

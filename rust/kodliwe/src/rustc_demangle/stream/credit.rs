@@ -2,7 +2,16 @@
 //! Whether the runs of a text are printed before they are known to be symbols.
 
 /// How many bytes of a run that was printed in vain cost one symbol.
-const BYTES_PER_SYMBOL: usize = 4;
+const BYTES_PER_SYMBOL: usize = 8;
+
+/// How many bytes of its text cost one symbol.
+const TEXT_PER_SYMBOL: usize = 12;
+
+/// How much fuel that its references used up costs one symbol.
+const FUEL_PER_SYMBOL: usize = 32;
+
+/// How many symbols count for later runs.
+const MOST_SAVED: usize = 64;
 
 /// Returns whether a run, or a run with the `_` before it, starts as a v0 symbol.
 #[cfg_attr(not(debug_assertions), inline(always))]
@@ -10,12 +19,14 @@ pub(super) fn starts_as_v0(run: &[u8]) -> bool {
     (run.len() > 2) && ((run[1] == b'R') | ((run[1] == b'_') & (run[2] == b'R')))
 }
 
-/// Whether the runs of a text are printed first. After a v0 run that was printed in vain, they are
-/// not, until enough symbols were read. So a text of such runs takes little longer than validating
-/// all runs first. A run is printed in vain if it is no symbol, or if the print gave up.
+/// Whether the runs of a text are printed first. After v0 runs that were printed in vain, they are
+/// not, until enough symbols were read for what these cost. So a text of such runs takes little
+/// longer than validating all runs first. A run is printed in vain if it is no symbol, or if the
+/// print gave up.
 #[derive(Clone, Copy)]
 pub(super) struct Credit {
-    /// The number of symbols that have to be read before a run is printed first again.
+    /// How many symbols the runs in vain cost, less those that were read. If it is more than
+    /// `MOST_SAVED`, no run is printed first.
     owed: usize,
 }
 
@@ -23,25 +34,26 @@ impl Credit {
     /// Returns the credit of a text of which nothing was read.
     #[cfg_attr(not(debug_assertions), inline(always))]
     pub(super) fn new() -> Self {
-        Credit { owed: 0 }
+        Credit { owed: MOST_SAVED }
     }
 
     /// Returns whether a run may be printed first.
     #[cfg_attr(not(debug_assertions), inline(always))]
     pub(super) fn is_given(&self) -> bool {
-        self.owed == 0
+        self.owed <= MOST_SAVED
     }
 
-    /// Takes account of a run that was printed in vain. Only v0 runs count, because few bytes of
-    /// others are printed before it is known.
+    /// Takes account of a run of which so many bytes were printed in vain, and whose references used up
+    /// so much fuel. Only v0 runs count, because few bytes of others are printed before it is known.
     #[cfg_attr(not(debug_assertions), inline(always))]
-    pub(super) fn lose(&mut self, run: &str) {
+    pub(super) fn lose(&mut self, run: &str, printed: usize, fuel: usize) {
         if starts_as_v0(run.as_bytes()) {
-            self.owed = run.len() / BYTES_PER_SYMBOL + 1;
+            let bytes = run.len() / BYTES_PER_SYMBOL + printed / TEXT_PER_SYMBOL;
+            self.owed += bytes + fuel / FUEL_PER_SYMBOL + 1;
         }
     }
 
-    /// Takes account of a symbol that was not printed first.
+    /// Takes account of a symbol that was read.
     #[cfg_attr(not(debug_assertions), inline(always))]
     pub(super) fn gain(&mut self) {
         self.owed = self.owed.saturating_sub(1);

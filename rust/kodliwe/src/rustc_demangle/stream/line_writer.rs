@@ -6,7 +6,7 @@ use crate::rustc_demangle::text::demangle_text;
 
 use crate::demangle_value::coalescing::write_at_once;
 use crate::demangle_value::format::Format;
-use crate::demangle_value::value::Demangle;
+use crate::demangle_value::value::{Demangle, has_style, read_run};
 use std::io;
 use std::io::Write;
 
@@ -51,7 +51,7 @@ fn write_read_at_once<W: Write>(
     output: &mut W,
     format: Format,
 ) -> io::Result<()> {
-    if symbol.has_style() {
+    if has_style(symbol) {
         write_symbol_at_once(symbol, output, format)
     } else {
         write_text(run, output)
@@ -64,15 +64,15 @@ pub(super) fn write_run_at_once<W: Write>(
     output: &mut W,
     format: Format,
 ) -> io::Result<()> {
-    let symbol = Demangle::read_run(run);
+    let symbol = read_run(run);
     write_read_at_once(&symbol, run, output, format)
 }
 
 /// Writes the replacement of a run: the printed symbol, with a write for each piece, or the run
 /// itself if it is not a symbol. Fails if the writer fails.
 pub(super) fn write_run<W: Write>(run: &str, output: &mut W, format: Format) -> io::Result<()> {
-    let symbol = Demangle::read_run(run);
-    if symbol.has_style() {
+    let symbol = read_run(run);
+    if has_style(&symbol) {
         write_symbol(&symbol, output, format)
     } else {
         write_text(run, output)

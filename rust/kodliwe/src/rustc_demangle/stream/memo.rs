@@ -5,9 +5,9 @@ use crate::rustc_demangle::stream::buffer_sink::BufferSink;
 use crate::rustc_demangle::stream::credit::{Credit, starts_as_v0};
 use crate::rustc_demangle::stream::line_writer::{write_run, write_run_at_once};
 
-use crate::demangle_value::format::{Format, MAX_SIZE, SizeLimit, unfolded_form};
-use crate::demangle_value::value::Demangle;
+use crate::demangle_value::format::{Format, MAX_SIZE, SizeLimit, TextFormat, unfolded_form};
 use crate::demangle_value::value::printing::{Tried, print_legacy_run, print_v0_run};
+use crate::demangle_value::value::{Demangle, has_style, read_run};
 use crate::piece_buffer::GrowingBuffer;
 use crate::support::alloc::Global;
 use std::io;
@@ -77,10 +77,11 @@ struct Store {
 
 /// A memo of printed symbols, with which a filter does not parse a repeated symbol again.
 ///
-/// It belongs to one format, in which all its texts were printed. It allocates at most 5.5 MB of
-/// memory, of which the last printed text uses at most 1,024,000 bytes. It allocates none if there
-/// are no symbols. A lookup compares at most two symbols. If memory can't be allocated, symbols are
-/// parsed as without a memo. The memo turns itself off for a while if few symbols repeat.
+/// It belongs to one format, in which all its texts were printed. It has at most 5.5 MB of memory,
+/// of which the last printed text uses at most 1,024,000 bytes, and 7.6 MB while that grows. It
+/// allocates none if there are no symbols. A lookup compares at most two symbols. If memory can't be
+/// allocated, symbols are parsed as without a memo. The memo turns itself off for a while if few
+/// symbols repeat.
 pub struct SymbolMemo {
     alloc: Global,
     format: Format,
@@ -95,18 +96,19 @@ fn print_to_buffer(symbol: &Demangle<'_>, held: &mut GrowingBuffer, format: Form
 }
 
 /// Prints a run into the buffer before it is known to be a symbol. Returns what is known of it
-/// then. Unless it was printed, the buffer may have a part of it.
+/// then, and how much fuel its references used up. Unless it was printed, the buffer may have a
+/// part of it.
 #[cfg_attr(not(debug_assertions), inline(always))]
-fn print_first<'a>(run: &'a str, held: &mut GrowingBuffer, format: Format) -> Tried<'a> {
+fn print_first<'a>(run: &'a str, held: &mut GrowingBuffer, format: Format) -> (Tried<'a>, usize) {
     held.clear();
     let mut sink = BufferSink::new(held);
     if starts_as_v0(run.as_bytes()) {
         return print_v0_run(run, &mut sink, format);
     }
     if print_legacy_run(run, &mut sink, format) {
-        Tried::Printed
+        (Tried::Printed, 0)
     } else {
-        Tried::Unknown
+        (Tried::Unknown, 0)
     }
 }
 
@@ -147,28 +149,32 @@ impl Store {
             MOST_PRINTED
         };
         if run.len() > most || !self.credit.is_given() {
-            let symbol = Demangle::read_run(run);
-            if symbol.has_style() {
+            let symbol = read_run(run);
+            if has_style(&symbol) {
                 self.credit.gain();
             }
             return Some(symbol);
         }
-        let symbol = match print_first(run, &mut self.printed, format) {
-            Tried::Printed => return None,
+        let (tried, fuel) = print_first(run, &mut self.printed, format);
+        let symbol = match tried {
+            Tried::Printed => {
+                self.credit.gain();
+                return None;
+            }
             Tried::Read(symbol) => symbol,
-            Tried::Unknown => Demangle::read_run(run),
+            Tried::Unknown => read_run(run),
         };
-        self.credit.lose(run);
+        self.credit.lose(run, self.printed.len(), fuel);
         Some(symbol)
     }
 
     /// Prints into the buffer a run that was read. If the path may have over 1,000,000 bytes, it
     /// prints nothing, so that nothing is printed in vain.
     fn print_read(&mut self, symbol: &Demangle<'_>, run: &str, format: Format) -> Printed {
-        if !symbol.has_style() {
+        if !has_style(symbol) {
             return Printed::NoSymbol;
         }
-        if format.for_text(run.len()).limit > MAX_SIZE {
+        if TextFormat::for_text(format, run.len()).limit > MAX_SIZE {
             return Printed::NotHeld;
         }
         self.printed.clear();
@@ -213,7 +219,7 @@ impl Store {
             Noted::New => self.print_run(run, format),
             Noted::Again => self.print_new(run, hash, format),
             Noted::TooLong => {
-                let symbol = Demangle::read_run(run);
+                let symbol = read_run(run);
                 self.print_read(&symbol, run, format)
             }
         }
@@ -257,6 +263,7 @@ impl SymbolMemo {
     }
 
     /// Returns the number of bytes of memory that the memo has allocated, which is at most 5.5 MB.
+    /// While it grows, the memory before is allocated too, until its bytes are copied.
     #[cfg(all(test, feature = "stream"))]
     pub fn allocated(&self) -> usize {
         self.store.texts.allocated() + self.store.printed.allocated()
@@ -279,10 +286,20 @@ impl SymbolMemo {
         }
     }
 
+    /// Writes the replacement of a run that is too long for the memo, as `write_new` does. The buffer
+    /// can copy parts of its text.
+    #[inline(never)]
+    fn write_long<W: Write>(&mut self, run: &str, output: &mut W) -> io::Result<()> {
+        self.write_new(run, None, output)
+    }
+
     /// Writes the replacement of a run: the printed symbol, or the run itself if it is not a
     /// symbol. Compares the run with at most two others. Fails if the writer fails.
     pub(super) fn write_run<W: Write>(&mut self, run: &str, output: &mut W) -> io::Result<()> {
         if !is_looked_up(run.as_bytes()) {
+            if run.len() > MAX_KEY && starts_as_v0(run.as_bytes()) {
+                return self.write_long(run, output);
+            }
             return write_run(run, output, self.format);
         }
         if !self.probe.is_on() {

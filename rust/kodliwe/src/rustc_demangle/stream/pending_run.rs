@@ -3,7 +3,7 @@
 //! unfinished candidate is buffered.
 
 use crate::rustc_demangle::byte_before::ByteBefore;
-use crate::rustc_demangle::runs::{run_len, run_start, run_text};
+use crate::rustc_demangle::runs::{may_be_replaced, run_len, run_start, run_text};
 use crate::rustc_demangle::stream::fault::StreamFault;
 use crate::rustc_demangle::stream::memo::SymbolMemo;
 use crate::support::vec::Vec;
@@ -36,10 +36,9 @@ impl SymbolMemo {
     fn write_candidate<W: Write>(
         &mut self,
         candidate: &[u8],
-        before: ByteBefore,
         output: &mut W,
     ) -> Result<(), StreamFault> {
-        if before.is_alphanumeric() {
+        if !may_be_replaced(candidate) {
             return write_unchanged(candidate, output);
         }
         match self.write_run(run_text(candidate), output) {
@@ -92,7 +91,7 @@ impl<A: Allocator> Pending<A> {
         let before = self.before;
         let text = self.bytes.as_slice();
         let written = if before.starts_candidate(text) {
-            memo.write_candidate(text, before, output)
+            memo.write_candidate(text, output)
         } else {
             write_unchanged(text, output)
         };
@@ -159,17 +158,16 @@ impl<A: Allocator> Pending<A> {
         };
         let (kept, found) = available.split_at(before.plain_len(&available[..start]));
         let len = run_len(found);
-        let before_found = before.after(kept);
         if len == found.len() {
             buffer_bytes(&mut self.bytes, found)?;
-            self.before = before_found;
+            self.before = before.after(kept);
             write_unchanged(kept, output)?;
             return Ok(available.len());
         }
         write_unchanged(kept, output)?;
         let candidate = &found[..len];
-        memo.write_candidate(candidate, before_found, output)?;
-        self.before = before_found.after(candidate);
+        memo.write_candidate(candidate, output)?;
+        self.before = ByteBefore::Inside;
         Ok(kept.len() + len)
     }
 
