@@ -29,6 +29,7 @@ SHARED := libkodliwe.$(VERSION).dylib
 LINKED := libkodliwe.dylib
 endif
 PROGRAMS := kodliwe demangle_filter
+MEASURED := demangle_calls demangle_workloads
 HEADERS := include/kodliwe.h include/rustc_demangle.h
 MANUALS := docs/kodliwe.1 docs/demangle_filter.1
 LICENCES := LICENSE LICENSE-MIT-rustc-demangle LICENSE-APACHE-rustc-demangle
@@ -161,6 +162,14 @@ $(BUILD)/proved: $(SOURCES) packaging/prove | $(BUILD)
 endif
 
 $(PROGRAMS:%=$(BUILD)/%): $(BUILD)/%: $(BUILD)/proved
+	@$(STRIP) -o $@ crates/$*/out/$*
+
+# What bench/calls.py and tests/speed.py measure. No user needs it, so that `make` alone does not build it.
+$(BUILD)/measured: $(BUILD)/proved
+	@packaging/prove $(MEASURED) $(FLAGS)
+	@touch $@
+
+$(MEASURED:%=$(BUILD)/%): $(BUILD)/%: $(BUILD)/measured
 	@$(STRIP) -o $@ crates/$*/out/$*
 
 $(BUILD)/rustc_demangle.o: bindings/c/rustc_demangle.c $(HEADERS) | $(BUILD)

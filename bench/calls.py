@@ -1,9 +1,8 @@
 #!/usr/bin/env python3
 """Measures single calls of the library: nanoseconds, instructions, and bytes of stack.
 
-It makes a copy of the library's crates outside the repository, with their folders `out`. Next to it, it makes a program that
-repeats one call, and builds that by `rt run`. Each call is in a function that is not inlined. The iterations alternate between two
-equal texts, so that the compiler omits none. It needs the Rattle kit and valgrind.
+The program is demangle_calls, which repeats one call. `make out/build/demangle_calls` builds it. Each call is in a function that is not
+inlined. The iterations alternate between two equal texts, so that the compiler omits none.
 
 Nanoseconds: the program runs with k iterations and with 10 k. The difference of the seconds (each the best of nine runs, which
 alternate with those of the other calls) is divided by 9 k. The time of iterations without a call is subtracted. Printing includes
@@ -21,10 +20,12 @@ the next one is created.
 """
 import argparse, os, re, subprocess, sys, tempfile, time
 
-from measuring import CORPUS, build, copy_library, instructions, need_kit, need_rust_crate, need_valgrind
+from measuring import BUILD, CORPUS, instructions, need_rust_crate, need_valgrind
 from texts import chained, doubling
 
+PROGRAM = os.path.join(BUILD, "demangle_calls")
 TIMED = ["try_demangle", "write_to, ArraySink<1024>"]
+# The names of the calls, as the program has them. The first is none.
 CALLS = [
     "nothing",
     "try_demangle",
@@ -41,183 +42,12 @@ CALLS = [
     "demangle_stream_named",
 ]
 RUST_TIMED = ["try_demangle", "Display into an array"]
+DEEP = chained(1)
 # Each tuple leaves a frame while the one in it is read.
 TUPLES = "_RMC0" + 60 * "T" + "u" + 60 * "E"
 # The least seconds of the longer run, and the number of runs of each, of which the best counts.
 LONG = 0.5
 ROUNDS = 9
-
-PROGRAM = """//! Repeats a call of the library.
-#![tactic(auto)]
-
-ghost use Rattle.std.specs.Prelude.{◌≡◌, false, ◌<◌};
-
-use rustc_demangle::sink::{ArraySink, TextSink, WriteSink};
-use rustc_demangle::{Demangle, Looks};
-use std::alloc::{AllocError, Global};
-use std::env;
-use std::io;
-use std::io::{BufRead, BufReader};
-use std::process::ExitCode;
-
-const PAD: usize = 524288;
-
-#[inline(never)]
-fn call_try_demangle(text: &str) -> usize {
-    if rustc_demangle::try_demangle(text).is_ok() { 1 } else { 0 }
-}
-
-#[inline(never)]
-fn call_demangle<'a>(text: &'a str) -> Demangle<'a> {
-    rustc_demangle::demangle(text)
-}
-
-#[inline(never)]
-fn call_demangle_counted<'a>(text: &'a str) -> Demangle<'a> {
-    rustc_demangle::demangle_counted(text, &mut Looks::new())
-}
-
-#[inline(never)]
-fn call_write_to<S: TextSink>(symbol: &Demangle<'_>, sink: &mut S) -> usize
-    requires { S.failed sink.old ≡ false }
-{
-    if symbol.write_to(sink, true).is_ok() { 1 } else { 0 }
-}
-
-#[inline(never)]
-fn call_write_counted<S: TextSink>(symbol: &Demangle<'_>, sink: &mut S) -> usize
-    requires { S.failed sink.old ≡ false }
-{
-    if symbol.write_counted(sink, true, &mut Looks::new()).is_ok() { 1 } else { 0 }
-}
-
-#[inline(never)]
-fn call_write_limited<S: TextSink>(symbol: &Demangle<'_>, sink: &mut S) -> usize
-    requires { S.failed sink.old ≡ false }
-{
-    if symbol.write_limited(sink, true, 1000).is_ok() { 1 } else { 0 }
-}
-
-#[inline(never)]
-fn call_write_limited_counted<S: TextSink>(symbol: &Demangle<'_>, sink: &mut S) -> usize
-    requires { S.failed sink.old ≡ false }
-{
-    if symbol.write_limited_counted(sink, true, 1000, &mut Looks::new()).is_ok() { 1 } else { 0 }
-}
-
-#[inline(never)]
-fn call_display(symbol: &Demangle<'_>, text: &mut String) -> usize {
-    if write!(text, "{symbol}").is_ok() { 1 } else { 0 }
-}
-
-#[inline(never)]
-fn call_debug(symbol: &Demangle<'_>, text: &mut String) -> usize {
-    if write!(text, "{symbol:?}").is_ok() { 1 } else { 0 }
-}
-
-#[inline(never)]
-fn call_demangle_stream(alloc: Global, input: &mut &[u8], output: &mut Vec<u8>) -> usize {
-    if rustc_demangle::demangle_stream(alloc, input, output, true).is_ok() { 1 } else { 0 }
-}
-
-#[inline(never)]
-fn call_demangle_stream_named(alloc: Global, input: &mut &[u8], output: &mut Vec<u8>) -> usize {
-    if rustc_demangle::demangle_stream_named(alloc, input, output, true).is_ok() { 1 } else { 0 }
-}
-
-// One iteration of a call that prints a symbol.
-fn print(alloc: Global, call: usize, symbol: &Demangle<'_>) -> usize {
-    let mut sink: ArraySink<1024> = ArraySink::new();
-    let mut text = String::new(alloc);
-    let done = match call {
-        4 => call_write_to(symbol, &mut sink),
-        5 => call_write_counted(symbol, &mut sink),
-        6 => call_write_limited(symbol, &mut sink),
-        7 => call_write_limited_counted(symbol, &mut sink),
-        9 => call_display(symbol, &mut text),
-        _ => call_debug(symbol, &mut text),
-    };
-    done.wrapping_add(sink.as_str().len()).wrapping_add(text.len())
-}
-
-// One iteration of a call that writes into memory.
-fn write(alloc: Global, call: usize, text: &str, symbol: &Demangle<'_>) -> usize {
-    let mut output = Vec::new(alloc);
-    let mut input = text.as_bytes();
-    let done = match call {
-        8 => call_write_to(symbol, &mut WriteSink::new(&mut output)),
-        11 => call_demangle_stream(alloc, &mut input, &mut output),
-        _ => call_demangle_stream_named(alloc, &mut input, &mut output),
-    };
-    done.wrapping_add(output.len())
-}
-
-// One iteration.
-fn turn(alloc: Global, call: usize, text: &str, symbol: &Demangle<'_>) -> usize {
-    match call {
-        0 => text.len(),
-        1 => call_try_demangle(text),
-        2 => call_demangle(text).as_str().len(),
-        3 => call_demangle_counted(text).as_str().len(),
-        4..=7 | 9..=10 => print(alloc, call, symbol),
-        _ => write(alloc, call, text, symbol),
-    }
-}
-
-#[inline(never)]
-fn filled(pad: &mut [u8], turns: usize) {
-    for byte in pad.iter_mut() {
-        *byte = (turns & 255) as u8;
-    }
-}
-
-#[inline(never)]
-fn some_of(pad: &[u8], turns: usize) -> usize {
-    pad.get(turns).copied().map_or(0, usize::from)
-}
-
-#[inline(never)]
-fn turns_of<'s>(alloc: Global, call: usize, turns: usize, one: &'s Demangle<'s>, two: &'s Demangle<'s>) -> usize {
-    let mut pad = [0; PAD];
-    filled(pad.as_mut_slice(), turns);
-    let mut done: usize = 0;
-    for at in 0..turns {
-        let symbol = if at % 2 == 0 { one } else { two };
-        done = done.wrapping_add(turn(alloc, call, symbol.as_str(), symbol));
-    }
-    done.wrapping_add(some_of(pad.as_slice(), turns))
-}
-
-fn run(rt: &HostRuntime) -> io::Result<usize> {
-    let alloc = rt.alloc();
-    let words = env::args(rt)?.collect::<Vec<String>>(alloc)?;
-    let [_, call, turns] = words.as_slice() else {
-        return Ok(0);
-    };
-    let (Ok(call), Ok(turns)) = (call.as_str().parse::<usize>(), turns.as_str().parse::<usize>()) else {
-        return Ok(0);
-    };
-    let input = BufReader::new(alloc, rt.stdin().lock())?;
-    let mut texts = Vec::new(alloc);
-    for line in input.lines(alloc) {
-        texts.push(line?)?;
-    }
-    let [one, two] = texts.as_slice() else {
-        return Ok(0);
-    };
-    Ok(turns_of(alloc, call, turns, &call_demangle(one.as_str()), &call_demangle(two.as_str())))
-}
-
-fn main(rt: HostRuntime) -> ExitCode {
-    match run(&rt) {
-        Ok(done) => {
-            let _ = println!(rt; "{done}");
-            ExitCode::from(0)
-        }
-        Err(_) => ExitCode::from(1),
-    }
-}
-"""
 
 RUST_PROGRAM = """//! Repeats a call of rustc-demangle.
 use rustc_demangle::{try_demangle, Demangle};
@@ -250,7 +80,9 @@ fn call_display(symbol: &Demangle<'_>, sink: &mut Sink) -> usize {
 
 fn main() {
     let words: Vec<String> = std::env::args().collect();
-    let (call, turns): (usize, usize) = (words[1].parse().unwrap(), words[2].parse().unwrap());
+    let names = ["nothing", "try_demangle", "Display into an array"];
+    let call = names.iter().position(|name| *name == words[1]).unwrap();
+    let turns: usize = words[2].parse().unwrap();
     let texts = std::io::read_to_string(std::io::stdin()).unwrap();
     let texts: Vec<&str> = texts.lines().collect();
     let symbols = [rustc_demangle::demangle(texts[0]), rustc_demangle::demangle(texts[1])];
@@ -287,16 +119,6 @@ def built_rust(folder, crate):
     return os.path.join(project, "target", "release", "rust_calls")
 
 
-def built(folder, jobs):
-    """Makes the program, and returns its path."""
-    copy_library(folder, "calls")
-    source = os.path.join(folder, "crates", "calls", "src")
-    os.makedirs(source)
-    with open(os.path.join(source, "main.rt"), "w") as file:
-        file.write(PROGRAM)
-    return build(folder, "calls", jobs)
-
-
 def middle(prefix, lines):
     """The accepted symbol of middle length of these lines of the corpus."""
     fields = [line.split("\t") for line in lines]
@@ -312,7 +134,7 @@ def typical():
 
 def run_seconds(program, call, turns, text):
     began = time.perf_counter()
-    subprocess.run([program, str(call), str(turns)], input=text, stdout=subprocess.DEVNULL, check=True)
+    subprocess.run([program, call, str(turns)], input=text, stdout=subprocess.DEVNULL, check=True)
     return time.perf_counter() - began
 
 
@@ -337,14 +159,14 @@ def nanoseconds(calls, symbol):
 def turn_instructions(calls, symbol):
     """The instructions of an iteration of each call, with its loop."""
     text = (symbol + "\n").encode() * 2
-    counted = [[instructions([program, str(call), turns], text) for turns in ("100", "600")] for program, call in calls]
+    counted = [[instructions([program, call, turns], text) for turns in ("100", "600")] for program, call in calls]
     return [(many - few) // 500 for few, many in counted]
 
 
 def print_table(title, measured, rows, symbols):
     """A line for each row (a name, a program, a call), less the cost of an iteration without a call."""
     programs = list(dict.fromkeys(program for _, program, _ in rows))
-    calls = [(program, 0) for program in programs] + [(program, call) for _, program, call in rows]
+    calls = [(program, CALLS[0]) for program in programs] + [(program, call) for _, program, call in rows]
     columns = []
     for symbol in symbols:
         taken = measured(calls, symbol)
@@ -358,42 +180,35 @@ def print_table(title, measured, rows, symbols):
 
 def stack(program, call, symbol):
     text = (symbol + "\n").encode() * 2
-    words = ["valgrind", "--tool=drd", "--show-stack-usage=yes", program, str(CALLS.index(call)), "1"]
+    words = ["valgrind", "--tool=drd", "--show-stack-usage=yes", program, call, "1"]
     run = subprocess.run(words, input=text, stdout=subprocess.DEVNULL, stderr=subprocess.PIPE, check=True)
     return int(re.search(rb"thread 1 finished and used (\d+) bytes", run.stderr).group(1))
 
 
 def main():
     words = argparse.ArgumentParser(description=__doc__, formatter_class=argparse.RawDescriptionHelpFormatter)
-    words.add_argument(
-        "--keep", metavar="FOLDER", help="make the copy in this folder, which is not there before and stays (default: a temporary one)"
-    )
-    words.add_argument(
-        "--program", metavar="PATH", help="measure this program, which --keep left in FOLDER/crates/calls/out, and build none"
-    )
-    words.add_argument("--jobs", type=int, metavar="N", help="how many jobs `rt run` takes")
+    words.add_argument("--program", metavar="PATH", default=PROGRAM, help="measure this build of demangle_calls")
     words.add_argument("--rust-crate", metavar="FOLDER", help="the folder of the Rust crate rustc-demangle: measured beside this library")
     given = words.parse_args()
-    if not given.program:
-        need_kit()
+    if not os.path.exists(given.program):
+        sys.exit("no %s: build it first, by `make out/build/demangle_calls`" % given.program)
     need_valgrind()
     if given.rust_crate:
         need_rust_crate(given.rust_crate)
     legacy, v0 = typical()
     with tempfile.TemporaryDirectory() as temporary:
-        program = given.program or built(given.keep or temporary, given.jobs)
-        rows = [(call, program, CALLS.index(call)) for call in TIMED]
+        rows = [(call, given.program, call) for call in TIMED]
         if given.rust_crate:
             rust = built_rust(temporary, given.rust_crate)
-            rows += [("%s of rustc-demangle" % call, rust, at) for at, call in enumerate(RUST_TIMED, 1)]
+            rows += [("%s of rustc-demangle" % call, rust, call) for call in RUST_TIMED]
         print("legacy: `%s`\n\nv0: `%s`\n" % (legacy, v0))
         for title, measured in (("nanoseconds", nanoseconds), ("instructions", turn_instructions)):
-            print_table(title, measured, rows, (legacy, v0, chained(1)))
-        symbols = (legacy, v0, doubling(17), chained(1), TUPLES)
-        without = [stack(program, "nothing", symbol) for symbol in symbols]
+            print_table(title, measured, rows, (legacy, v0, DEEP))
+        symbols = (legacy, v0, doubling(17), DEEP, TUPLES)
+        without = [stack(given.program, CALLS[0], symbol) for symbol in symbols]
         print("| bytes of stack | legacy | v0 | doubling, 17 tuples | deep v0 | 60 tuples |\n| --- | ---: | ---: | ---: | ---: | ---: |")
         for call in CALLS[1:]:
-            used = [stack(program, call, symbol) - base for symbol, base in zip(symbols, without)]
+            used = [stack(given.program, call, symbol) - base for symbol, base in zip(symbols, without)]
             print("| %s | " % call + " | ".join("{:,}".format(count) for count in used) + " |", flush=True)
 
 

@@ -5,7 +5,7 @@ The paths and the texts are those of the tests.
 import argparse, os, resource, shlex, shutil, subprocess, sys, time
 
 sys.path.append(os.path.join(os.path.dirname(os.path.dirname(os.path.abspath(__file__))), "tests"))
-from common import CORPUS, FILTER, KODLIWE, ROOT, instructions  # noqa: E402,F401
+from common import BUILD, CORPUS, FILTER, KODLIWE, ROOT, instructions  # noqa: E402,F401
 
 LIBRARY = "rustc_demangle"
 OTHERS = ["rustfilt", "c++filt", "llvm-cxxfilt"]
