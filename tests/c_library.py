@@ -22,6 +22,7 @@ line for each of these:
   package     rust/kodliwe-capi: the erased tests of the calls pass, and cargo fmt and clippy report nothing (only the tested library)
   cargo's     the archive that cargo writes, of which `make KIT=none` makes the tested one: it defines functions of the compiler's library
               too, needs bcmp too, and answers.c gives the stored answers with it, linked as usual and with -static
+  compare     the two functions of bindings/c/compare.c order bytes as Python does
   by name     rustc_demangle is a function of the shared library, and returns the same as the crate's
   sanitizers  tests/c_library/many.c makes each call for 20,000 texts, most of them damaged symbols, from two threads at once,
               built with AddressSanitizer, UndefinedBehaviorSanitizer and ThreadSanitizer; with --all for 200,000
@@ -33,6 +34,7 @@ The last line is 'N passed, N failed'. A missing tool is a failure.
 """
 import argparse, ctypes, os, re, struct, subprocess, sys, tempfile
 from concurrent.futures import ThreadPoolExecutor
+from itertools import product
 from types import SimpleNamespace
 
 from common import INCLUDE, ROOT, Library, Tally, add_libraries, built, declared_calls, instructions, run, same, tool
@@ -230,6 +232,21 @@ def check_headers(folder):
     return "no warning by %s" % "; ".join(" ".join(way) for way in ways)
 
 
+def check_compare(folder):
+    """Compares the functions of bindings/c/compare.c, which the archive has with local names, with Python's order of bytes."""
+    place = os.path.join(folder, "compare.so")
+    run([tool("gcc"), "-O1", "-fPIC", "-shared", os.path.join(ROOT, "bindings", "c", "compare.c"), "-o", place])
+    loaded, tried = ctypes.CDLL(place), 0
+    texts = [bytes(text) for size in range(4) for text in product((0, 1, 127, 128, 255), repeat=size)]
+    for one, other in product(texts, repeat=2):
+        size = min(len(one), len(other))
+        order = (one[:size] > other[:size]) - (one[:size] < other[:size])
+        found, differs = loaded.memcmp(one, other, ctypes.c_size_t(size)), loaded.bcmp(one, other, ctypes.c_size_t(size))
+        same(((found > 0) - (found < 0), differs != 0), (order, order != 0))
+        tried += 1
+    return "%d pairs" % tried
+
+
 OLD_C = """
 #include "kodliwe.h"
 #include "rustc_demangle.h"
@@ -273,8 +290,16 @@ def check_by_name(folder, library, expected):
     return "%d texts by ctypes: no answer differs" % tried
 
 
+def stays(symbol):
+    """Returns whether a text keeps this symbol."""
+    return symbol.startswith(b"_RC")
+
+
 def check_texts(folder, library, expected):
-    """The stored symbols with other bytes between them as one text, in both forms, at sizes that fit and that do not."""
+    """
+    The stored symbols with other bytes between them as one text, in both forms, at sizes that fit and that do not. Those that begin with
+    `_RC` stay.
+    """
     call = ctypes.CDLL(shared_library(folder, library)).kodliwe_demangle_text
     call.argtypes = [ctypes.c_char_p, ctypes.c_size_t, ctypes.c_void_p, ctypes.c_size_t, ctypes.c_bool, ctypes.c_size_t]
     call.restype = ctypes.c_size_t
@@ -287,7 +312,7 @@ def check_texts(folder, library, expected):
     ]
     text = b"".join(b"\xff <%s>\0\n" % symbol for symbol, _ in some)
     for form in range(2):
-        want = b"".join(b"\xff <%s>\0\n" % (answer[form] if answer else symbol) for symbol, answer in some)
+        want = b"".join(b"\xff <%s>\0\n" % (symbol if stays(symbol) or not answer else answer[form]) for symbol, answer in some)
         for room in (len(want) + 40, len(want) + 1, len(want), 1000, 1, 0):
             out = ctypes.create_string_buffer(b"\x5a" * (len(want) + 64), len(want) + 64)
             assert call(text, len(text), out, room, form == 0, NO_LIMIT) == len(want) + 1, "another size is returned"
@@ -324,7 +349,7 @@ def check_folded(folder, library, symbols):
         rows = [row for row in zip(symbols, form) if re.fullmatch(rb"(_ZN|_R)[\w$.]*", row[0])]
         filtered = folded_lines(loaded.kodliwe_demangle_text_folded, [symbol for symbol, _ in rows], include_hash)
         for (symbol, line), text in zip(rows, filtered):
-            whole = b"OK\t" + escaped(symbol) if line == b"ERR" else line
+            whole = b"OK\t" + escaped(symbol) if line == b"ERR" or stays(symbol) else line
             if is_cut_earlier(text, whole):
                 cut += 1
             else:
@@ -487,6 +512,7 @@ def main():
     expected = list(stored())
     with tempfile.TemporaryDirectory() as folder:
         tally.step("headers", check_headers, folder)
+        tally.step("compare", check_compare, folder)
     kinds = [options.library] if options.library else Library.KINDS
     with ThreadPoolExecutor(len(kinds)) as pool:
         list(pool.map(lambda kind: try_library(tally, Library(kind), expected, ALL if options.all else FEW), kinds))

@@ -156,11 +156,11 @@ def check_corpus(rust=RUST):
 
 
 def as_filter(symbol, line, filtered):
-    """Returns the line of demangle_filter, if that of kodliwe differs only because of the bytes before the run, or is cut earlier."""
+    """Returns the line of demangle_filter, if that of kodliwe differs only because it keeps `_RC` or takes a `_` in, or is cut earlier."""
     if texts.is_cut_earlier(line, filtered):
         return filtered
     before = re.split(rb"_(?:ZN|R)", symbol, maxsplit=1)[0]
-    if line == symbol and before[-1:].isalnum():
+    if line == symbol and symbol[len(before) :].startswith(b"_RC"):
         return filtered
     return b"_" + line if before == b"_" and line != symbol else line
 

@@ -13,7 +13,7 @@ cut off, the function alone is compared. With --write an edit that has no such l
 judged by a reader. An edit that the gate did not try is a failure, and so is one that has no such line.
 
 Without a file of the gate, an edit fails if it has no line `clause:` or more than one, if its crate has no such function, if no
-contract of the repository has such a clause, or if an `old:` text is not in its file exactly once. More than 430 edits are one failure.
+contract of the repository has such a clause, or if an `old:` text is not in its file exactly once.
 The last line is 'N passed, N failed'.
 """
 import argparse, glob, os, re, sys
@@ -23,8 +23,6 @@ from common import ROOT
 CRATES = os.path.join(ROOT, "crates")
 # The folder of a crate that has its edits.
 FOLDER = "must-fail"
-# The most edits. Each takes half a minute of a processor, and the gate has to end in time.
-MOST = 430
 SAID = re.compile(r"must-fail (\w+)/([\w.-]+)\.edit: (.*)")
 REFUSED = re.compile(r"refused, as it must be(?:: (.*))?$")
 IN_PROOF = re.compile(r"(?:\./)?proofs/(?:.*/)?([\w-]+)/\w+\.antt:\d+:\d+: \w+: `([^`]*)(`?)")
@@ -174,9 +172,6 @@ def wrongs(options):
         names = Names()
         for crate, name, lines in edits(options.crate):
             yield crate, name, names.wrong(crate, lines)
-        count = len(list(edits(None)))
-        if count > MOST:
-            yield "crates", FOLDER, "%d edits, and at most %d: remove those that tell least" % (count, MOST)
 
 
 def main():

@@ -9,16 +9,22 @@ grammar. The calls are these:
 
   rust     try_demangle, Display, demangle_text, demangle_slice and BytesFilter, plain and folded, of the Rust crate
   c        the calls of the archive that read a symbol or a text, as `make` builds it (proved) and as `make KIT=none` does (tested)
-  program  kodliwe, plain and with --fold, over its standard input, as `make` builds it (proved) and as cargo does; and with --limit 0
-           an argument whose path has 2^18 parts
+  program  kodliwe, plain and with --fold, over its standard input, as `make` builds it (proved) and as cargo does; with --limit 0
+           an argument whose path has 2^18 parts; and symbols that are several writes, which it takes PIECES_TIMES of BytesFilter for
   linear   kodliwe, also with --hash, and the archive's calls of texts, plain and folded, with no limit, over texts whose time and output
            are linear only by the limits that hold then: for each byte at most LINEAR_RATE instructions and OUTPUT bytes, for a double
            LINEAR_GROWTH times the instructions
+  copied   demangle_slice, BytesFilter, the archive's calls of texts and kodliwe, plain and folded, over symbols of which most is copied: at
+           most 1 / COPIED_TIMES of the instructions of the published crate, which prints the same
   page     the module of the page, in node. There is no count of its instructions, so this is processor time, of a text and of one of
            four times its size
-  memory   VmHWM of each kodliwe over all of the texts: at most 8 MB, and twice the longest candidate of a symbol
+  memory   VmHWM of each kodliwe over all of the texts: at most 8 MB, and twice the longest candidate of a symbol. And over a text at
+           which its memo grows to the most: at most GROWN beyond that over an empty text
+  printed first
+           BytesFilter over real symbols that come once: at most a part of what demangle_text takes, which validates each first (FIRST)
   printed in vain
-           BytesFilter over runs that it prints before it is known that these are no symbols, and calls that validate each run first
+           BytesFilter over runs that it prints before it is known that these are no symbols, and calls that validate each run first; and
+           four runs of which more would be printed without a rule of fuel (WITHIN)
 
 A text fails for a call
 - if it takes over TIMES the instructions of the published crate, and over RATE for each byte of its input and output;
@@ -32,7 +38,7 @@ A run that is printed in vain fails if it takes over ALONE, BETWEEN or ALIKE tim
 demangle_text, folded or not as the call, and for a C call that of kodliwe_path_len of the same archive. For a filter or a C call it is
 also what this call takes beyond the other one for a text with runs of the same lengths that are no symbols by their fourth byte.
 BytesFilter remembers equal runs, so it also reads runs that end with different numbers. After a run in vain it prints the next one only
-if enough symbols came between, so it also reads texts with as many cheap symbols between.
+if enough symbols came between, so it also reads texts with few and with many cheap symbols between.
 
 These runs are those of hostile_texts.VAIN, real symbols that are cut off, and what a search finds (tests/hostile_search.py). A run that
 is a symbol for the published crate is left out, such as a real symbol that is cut off within its suffix. But the calls of BytesFilter
@@ -71,6 +77,16 @@ TIMES, RATE = 3, 400
 GROWTH = 1.3
 # The most instructions and bytes of output for each byte of a text of LINEAR, if no limit is given, and the most that its double costs.
 LINEAR_RATE, OUTPUT, LINEAR_GROWTH = 60_000, 1_000, 2.2
+# The symbols that BytesFilter prints first, by their scheme and lengths, and the most that it takes for them, in what demangle_text takes.
+# A filter also looks a symbol up, which is a good part of what a legacy symbol takes.
+FIRST = {
+    "BytesFilter": [("v0", 64, 384, 0.92), ("legacy", 64, 384, 1.13)],
+    "BytesFilter folded": [("v0", 64, 384, 0.92), ("v0", 385, 768, 0.92)],
+}
+# The most that the program takes for symbols that are several writes each, in what BytesFilter takes.
+PIECES_TIMES = 1.6
+# How many times the instructions of the published crate are those of a call that copies, at least.
+COPIED_TIMES = 10
 # The bytes of a text of a family. Its double is the second one.
 SIZE = 16_384
 # The symbols by the grammar, and how many of them are one text.
@@ -90,6 +106,9 @@ C_CALLS = [
     "kodliwe_demangle_text",
     "kodliwe_demangle_text_folded",
 ]
+# The calls that copy the texts of references.
+COPYING_CALLS = ["demangle_slice", "BytesFilter", "BytesFilter folded"]
+COPYING_C_CALLS = ["kodliwe_demangle_text", "kodliwe_demangle_text_folded"]
 # The calls of texts, with the limit that says that none is given.
 LINEAR_C_CALLS = ["kodliwe_demangle_text, no limit", "kodliwe_demangle_text_folded, no limit"]
 # The calls that read runs which are no symbols, by the Rust crate and by the archive. BytesFilter prints these first.
@@ -98,14 +117,19 @@ VAIN_CALLS, VAIN_C_CALL = ["demangle_slice", "BytesFilter", "BytesFilter folded"
 PAGE_GROWTH = 2.5
 # The most memory of the program, in kilobytes, without a run, and the bytes of the longest run.
 MEMORY, LONGEST = 8192, 4_000_000
+# The most kilobytes of a memo while it grows: its entries, its buffer, and the one before, which is copied. And 1,024 for more of the
+# code and the stack than an empty text touches. Equal runs differ by up to 300.
+GROWN = (4_500_000 + 1_024_000 + 512_000) // 1024 + 1024
 # How many steps run at once, and how many measurements of one step.
 AT_ONCE = 4
-# The most that a run which is printed in vain may cost, in what validating it first costs: alone, MANY times with a cheap run or as many
-# cheap symbols between each two, and MANY times without any.
+# The most that a run which is printed in vain may cost, in what validating it first costs: alone, MANY times with a cheap run between each
+# two or fewer times with cheap symbols between, and MANY times without any.
 ALONE, BETWEEN, ALIKE = 3, 1.5, 1.3
 MANY = 500
-# The bytes of a cheap run for each byte of the run before it, and how many bytes of that run cost BytesFilter one symbol.
-CHEAP, BYTES_PER_SYMBOL = 8, 4
+# The bytes of a cheap run for each byte of the run before it.
+CHEAP = 8
+# How many cheap symbols are between each two runs, the most of them in a text, and the most runs then.
+SYMBOLS_BETWEEN, MOST_SYMBOLS, FEWER = (2, 8, 32, 128), 4_000, 200
 # The searches: the most bytes of a run, the generations, and whether symbols cost nothing and the archives read the dearest runs too.
 # BytesFilter prints no longer runs first, or than 768 if it folds arguments. The other calls validate each run first, so that a search over
 # them shows if one does not.
@@ -159,6 +183,7 @@ def all_texts():
 
 
 TEXTS = all_texts()
+COPIED = [text().encode("ascii") for text in hostile_texts.COPIED.values()]
 # Those that the program reads.
 NAMED = [text for text in TEXTS if not text.name.startswith("symbols from")]
 
@@ -261,15 +286,65 @@ def c_call(call, *archive):
 
 def program_call(program, *words):
     """Measures the program over each text that has a name of its own, in a process for each, without what its start takes."""
-    command = [built(program), "--hash", *words]
-    start, ours = instructions(command, b""), []
-    with futures.ThreadPoolExecutor(AT_ONCE) as pool:
-        sizes = list(pool.map(lambda text: len(run(command, input=text.bytes)), NAMED))
-        counts = pool.map(lambda text: instructions(command, text.bytes) - start, NAMED)
-        ours = list(zip(counts, sizes))
-    most = max(size / len(text.bytes) for text, size in zip(NAMED, sizes))
+    ours = program_measure([built(program), "--hash", *words])([text.bytes for text in NAMED])
+    most = max(size / len(text.bytes) for text, (_, size) in zip(NAMED, ours))
     assert most <= OUTPUT, "%.0f bytes of output a byte" % most
     return judged(" ".join(["kodliwe", *words]), ours, theirs("kodliwe"))
+
+
+def pieces(program):
+    """Compares the program, which holds short pieces before it writes them, with BytesFilter over symbols that are several writes each."""
+    text = b"_ZN3fooE.a " * 1500
+    ((ours, size),) = program_measure([built(program), "--hash"])([text])
+    ((filters, filters_size),) = measured(rust_driver(), "BytesFilter", [text])
+    assert size == filters_size, "%d bytes of output, and %d of BytesFilter" % (size, filters_size)
+    told = "%.2f times what BytesFilter takes" % (ours / filters)
+    assert ours <= PIECES_TIMES * filters, told
+    return told
+
+
+@once
+def published_copied():
+    """Returns what the published crate takes for each text of COPIED."""
+    return measured(rust_driver(), "crate", COPIED)
+
+
+def copied(measure):
+    """Judges a call that copies the texts of references by its instructions for the texts of COPIED."""
+    found, wrong = [], []
+    for name, (count, size), (crate, crates_size) in zip(hostile_texts.COPIED, measure(COPIED), published_copied()):
+        assert size == crates_size, "%s: %d bytes of output, %d of the crate's" % (name, size, crates_size)
+        found.append("%s takes 1 / %.1f of the crate's" % (name, crate / count))
+        wrong += [found[-1]] * (COPIED_TIMES * count > crate)
+    assert not wrong, ", ".join(wrong)
+    return ", ".join(found)
+
+
+def copied_program(program, *words):
+    return copied(program_measure([built(program), "--hash", *words]))
+
+
+def copied_rust(call):
+    return copied(functools.partial(measured, rust_driver(), call))
+
+
+def copied_c(call, *archive):
+    # The size that these calls return has the zero at the end.
+    return copied(lambda texts: [(count, size - 1) for count, size in measured(c_driver(*archive), call, texts)])
+
+
+def program_measure(command):
+    """Returns a function that returns the instructions and the bytes of output of a program for texts, without what its start takes."""
+    start = instructions(command, b"")
+
+    def figures(text):
+        return instructions(command, text) - start, len(run(command, input=text))
+
+    def measure(texts):
+        with futures.ThreadPoolExecutor(AT_ONCE) as pool:
+            return list(pool.map(figures, texts))
+
+    return measure
 
 
 def linear(measure):
@@ -287,14 +362,7 @@ def linear(measure):
 
 
 def linear_program(program, *words):
-    command = [built(program), *words]
-    start = instructions(command, b"")
-
-    def figures(text):
-        return instructions(command, text) - start, len(run(command, input=text))
-
-    with futures.ThreadPoolExecutor(AT_ONCE) as pool:
-        return linear(lambda texts: list(pool.map(figures, texts)))
+    return linear(program_measure([built(program), *words]))
 
 
 def linear_c(call, *archive):
@@ -335,9 +403,8 @@ def page():
     raise AssertionError("a byte of a larger text costs over %g times as much: %s" % (PAGE_GROWTH, ", ".join(left)))
 
 
-def high_water_mark(program, *words):
-    """Returns the kilobytes that the program had at most, after it wrote all that it could of the texts and one long run."""
-    runs = b"\n".join(text.bytes for text in TEXTS) + b"\n_R" + b"a" * LONGEST + b"\n_ZN3endE"
+def high_water_mark(program, text, *words):
+    """Returns the kilobytes that the program had at most, after it wrote all that it could of a text."""
     command = [built(program), "--hash", *words]
     with subprocess.Popen(command, stdin=subprocess.PIPE, stdout=subprocess.PIPE) as child:
         seen = threading.Event()
@@ -351,7 +418,7 @@ def high_water_mark(program, *words):
 
         reader = threading.Thread(target=read)
         reader.start()
-        child.stdin.write(runs + b" ")
+        child.stdin.write(text + b"\n_ZN3endE ")
         child.stdin.flush()
         assert seen.wait(60), "the end of the text is not written"
         with open("/proc/%d/status" % child.pid, encoding="utf-8") as file:
@@ -364,26 +431,44 @@ def high_water_mark(program, *words):
 
 def memory(program):
     most = MEMORY + 2 * LONGEST // 1024
-    found = [high_water_mark(program, *words) for words in ([], ["--fold"])]
+    text = b"\n".join(text.bytes for text in TEXTS) + b"\n_R" + b"a" * LONGEST
+    found = [high_water_mark(program, text, *words) for words in ([], ["--fold"])]
     assert max(found) <= most, "%s KB, more than %d" % (found, most)
-    return "%d KB plain and %d KB folded, at most %d" % (*found, most)
+    text = hostile_texts.growing_memory().encode()
+    grown = [high_water_mark(program, text, *words) - high_water_mark(program, b"", *words) for words in ([], ["--fold"])]
+    assert max(grown) <= GROWN, "%s KB for a memo that grows, more than %d" % (grown, GROWN)
+    return "%d KB plain and %d KB folded, at most %d; a memo that grows: %d and %d, at most %d" % (*found, most, *grown, GROWN)
+
+
+def printed_first(call):
+    """Judges a filter by its instructions for real symbols, each of which comes once, in those of demangle_text."""
+    symbols = {"v0": hostile_texts.real_symbols(), "legacy": hostile_texts.real_legacy_symbols()}
+    told, wrong = [], []
+    for scheme, least, longest, most in FIRST[call]:
+        chosen = [symbol for symbol in symbols[scheme] if least <= len(symbol) <= longest]
+        text = "".join(symbol + "\n" for symbol in chosen).encode("ascii")
+        first = "demangle_text" + " folded" * call.endswith(" folded")
+        ((ours, _),), ((valid, _),) = measured(rust_driver(), call, [text]), measured(rust_driver(), first, [text])
+        told.append("%d %s symbols of %d to %d bytes take %.2f" % (len(chosen), scheme, least, longest, ours / valid))
+        wrong += ["%s, may be %.2f" % (told[-1], most)] * (ours > most * valid)
+    assert not wrong, ", ".join(wrong)
+    return ", ".join(told)
 
 
 def cheap_run(symbol, _):
-    """Returns a cheap run that is no symbol."""
-    return ["_R" + "." * (CHEAP * len(symbol) - 3) + "q"]
+    """Returns a cheap run that is no symbol by its fourth byte. By its third byte, it would not be looked up."""
+    return ["_RN" + "." * (CHEAP * len(symbol) - 4) + "q"]
 
 
-def cheap_symbols(symbol, at):
-    """Returns as many cheap symbols as BytesFilter has to read before it prints a run first again. No two are the same."""
-    count = len(symbol) // BYTES_PER_SYMBOL + 1
-    return ["_RC1a.%014d" % (at * 1000 + number) for number in range(count)]
+def cheap_symbols(count):
+    """Returns a function that returns so many cheap symbols. No two are the same."""
+    return lambda _, at: ["_RNvC1a1b.%010d" % (at * count + number) for number in range(count)]
 
 
-def repeated(runs, is_counted, between=lambda *_: []):
-    """Returns a text of MANY runs, each perhaps with a number at its end, and what is between them."""
+def repeated(runs, is_counted, between=lambda *_: [], many=MANY):
+    """Returns a text of so many runs, each perhaps with a number at its end, and what is between them."""
     lines = []
-    for at in range(MANY):
+    for at in range(many):
         symbol = runs[at % len(runs)]
         lines.append(symbol + hostile_texts.BAD % at * is_counted)
         lines += between(symbol, at)
@@ -397,8 +482,9 @@ def vain_texts(runs, call):
         counted = "with numbers, " * is_counted
         texts[counted + "cheap ones between"] = BETWEEN, [repeated(runs, is_counted, cheap_run)]
         texts[counted + "many"] = ALIKE, [repeated(runs, is_counted)]
-    if call.startswith("BytesFilter"):
-        texts["with numbers, cheap symbols between"] = BETWEEN, [repeated(runs, True, cheap_symbols)]
+    for count in SYMBOLS_BETWEEN * call.startswith("BytesFilter"):
+        text = repeated(runs, True, cheap_symbols(count), min(FEWER, MOST_SYMBOLS // count))
+        texts["with numbers, %d cheap symbols between" % count] = BETWEEN, [text]
     return texts
 
 
@@ -472,6 +558,19 @@ def too_dear(costs):
         if cost > most:
             wrong.setdefault(name, []).append("%s %.2f, may be %.2f" % (kind, cost, most))
     return "".join("\n  %s: %s" % (name, "; ".join(texts)) for name, texts in wrong.items())
+
+
+def within():
+    """Judges BytesFilter by what it takes for each run of WITHIN after a cheap symbol, in what validating the run takes."""
+    (cheap,), runs = cheap_symbols(1)("", 0), [run for _, run in hostile_texts.WITHIN.values()]
+    assert no_symbols(runs) == runs, "one is a symbol"
+    texts = [(cheap + "\n" + run).encode("ascii") for run in ["", *runs]]
+    start, *counts = [count for count, _ in measured(rust_driver(), "BytesFilter", texts)]
+    valid = [count for count, _ in measured(rust_driver(), "demangle_text", [run.encode("ascii") for run in runs])]
+    costs = [(name, (count - start) / least, most) for (name, (most, _)), count, least in zip(hostile_texts.WITHIN.items(), counts, valid)]
+    told = ", ".join("%s take %.2f" % (name, cost) for name, cost, _ in costs)
+    assert all(cost <= most for _, cost, most in costs), told
+    return told
 
 
 def vain_families(call, *archive):
@@ -557,11 +656,15 @@ def counted_steps(programs):
         yield "linear, search for %s" % call, linear_search, call
     for call in CALLS:
         yield "rust " + call, rust_call, call
+    for call in COPYING_CALLS:
+        yield "copied, " + call, copied_rust, call
     for archive in archives():
         for call in C_CALLS:
             yield "c %s, %s" % (call, archive[0]), c_call, call, *archive
         for call in LINEAR_C_CALLS:
             yield "c %s, %s" % (call, archive[0]), linear_c, call, *archive
+        for call in COPYING_C_CALLS:
+            yield "copied, c %s, %s" % (call, archive[0]), copied_c, call, *archive
     for name, program in programs:
         yield "program %s" % name, program_call, program
         yield "program %s, folded" % name, program_call, program, "--fold"
@@ -569,6 +672,12 @@ def counted_steps(programs):
         yield "program %s, linear, folded" % name, linear_program, program, "--fold"
         yield "program %s, linear, with hashes" % name, linear_program, program, "--hash"
         yield "program %s, an argument" % name, argument, program
+        yield "program %s, pieces" % name, pieces, program
+        yield "copied, program %s" % name, copied_program, program
+        yield "copied, program %s, folded" % name, copied_program, program, "--fold"
+    for call in FIRST:
+        yield "printed first, %s" % call, printed_first, call
+    yield "printed in vain, within references", within
     for call in VAIN_CALLS:
         yield "printed in vain, %s" % call, vain_families, call
     for archive in archives():

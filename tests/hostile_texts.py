@@ -4,6 +4,7 @@ Only families have names, so that a bound can be stated for each. All are ASCII,
 """
 import os
 import random
+import re
 
 from common import CORPUS, ROOT
 from texts import DIGITS
@@ -69,7 +70,7 @@ FAMILIES = {
     "_Z": lambda n: "_Z" * (n // 2),
     "_R in a run": lambda n: "_R" * (n // 2),
     "_ZN in a run": lambda n: "_ZN" * (n // 3),
-    "short v0 symbols": lambda n: "_RC1\n" * (n // 5),
+    "short v0 symbols": lambda n: "_RNvC1a1b\n" * (n // 10),
     "short legacy symbols": lambda n: "_ZN1aE\n" * (n // 7),
     "symbols that end too early": lambda n: lines("_RNvC8aaaaaaaa8bbbbbbbb17%016d", n // 42),
     "symbols that come once": lambda n: lines("_RNvNtC8aaaaaaaa8bbbbbbbb9ccc%06d1d", n // 38),
@@ -89,9 +90,9 @@ FAMILIES = {
     "legacy escapes": lambda n: "_ZN%d%sE" % (n // 4 * 4, "$LT$" * (n // 4)),
     "legacy dots": lambda n: "_ZN%d%sE" % (n, "." * n),
     "legacy number": lambda n: "_ZN" + "9" * n + "E",
-    "suffix": lambda n: "_RC1a." + "x" * n,
-    "suffixes of ThinLTO": lambda n: "_RC1a" + ".llvm." * (n // 6) + "A",
-    "dots": lambda n: "_R" + "." * n,
+    "suffix": lambda n: "_RNvC1a1b." + "x" * n,
+    "suffixes of ThinLTO": lambda n: "_RNvC1a1b" + ".llvm." * (n // 6) + "A",
+    "dots": lambda n: "_RN" + "." * n,
     # The element is skipped, and references make a printer read it again before the end is known.
     "A": lambda n: lines(wide("MIC0" + "h" * 1880 + "EC0", 22, 20), n // 2029),
     "A, 30 bytes longer": lambda n: lines(wide("MIC0" + "h" * 1910 + "EC0", 22, 20), n // 2059),
@@ -134,8 +135,29 @@ LINEAR = {
     "B in lines": lambda n: lines(nested("MIC0" + "h" * 1000 + "EC0", 18, ".%06d"), n // 1103),
     "short B in lines": lambda n: lines(nested("MIC0" + "h" * 100 + "EC0", 18, ".%06d"), n // 203),
     "doubled in lines": lambda n: lines(doubled("u", 11, ".%06d"), n // 127),
+    # The limit of what is read again cuts it, after it is known that it is a symbol.
+    "a short symbol that is cut": lambda n: "_RMC0TTOOOB4_B8_B3_EE\n",
     "binders in lines": lambda n: "_RMC0FG15FTGf_Eu\n" * (n // 17),
     "binders in one line": lambda n: "_RMC0FG15FTGf_Eu " * (n // 17),
+}
+
+
+def two_chains(first, levels, end=""):
+    """Returns a tuple with two of `first`, and then with two of each level, which have both of the level before by references."""
+    symbol, last = "_RMC0T" + first * 2, (4, 4 + len(first))
+    for _ in range(levels):
+        here = len(symbol) - 2
+        symbol += "T" + back(last[0]) + back(last[1]) + "E"
+        there = len(symbol) - 2
+        symbol += "T" + back(last[1]) + back(last[0]) + "E"
+        last = here, there
+    return symbol + "E" + end
+
+
+# Symbols whose output grows twofold with each reference. The text of most references is copied, so they cost much less than their output.
+COPIED = {
+    "a chain": lambda: lines(doubled("u", 10, ".%06d"), 10),
+    "two chains": lambda: lines(two_chains("u", 10, ".%06d"), 10),
 }
 
 
@@ -185,7 +207,7 @@ VAIN = {
     "a trait object with bindings": referred("DC1ap1buEL_", 60),
     "open trait arguments": referred("DINtC1a1bhEp1cuEL_", 60),
     "a string and references to it": "_RIC0KRe" + "61" * 20 + "_" + "KB3_" * 60 + "0",
-    "an error at the start": "_R" + "0" * 62,
+    "an error at the start": "_RN" + "0" * 61,
     # The search found these.
     "cheap names and shims": "_R" + CHEAP + "TNSC0s9_1a" + back(len(CHEAP) + 1) * 4 + "E" + back(len(CHEAP)) * 3 + "0",
     "cheap names and ABIs": "_R" + CHEAP + "TFK3a_bEu" + back(len(CHEAP) + 1) * 4 + "E" + back(len(CHEAP)) * 3 + "0",
@@ -194,18 +216,55 @@ VAIN = {
     "a binder of many lifetimes in a long run": "_RYFGZZ_uEu0E" + "E" * 371,
     "lifetimes and references to them": "_RIC0FGZ_" + "RL0_u" * 18 + "B0_" * 95,
     "arguments that are read from within a name": "_RYC5INvC5B2_001aCu9t0a0a0a0a" + "Be_" * 245,
+    "a binder of many lifetimes in a run of 2,000 bytes": "_RYFGZZ_uEu0E" + "E" * 1987,
+    "arguments that are read from within a name, 2,000 bytes": "_RYC5INvC5B2_001aCu9t0a0a0a0a" + "Be_" * 657,
+}
+# Runs of which a filter without one of the rules of fuel prints more in vain: the most that each costs, and the run. The zeros are read
+# again for each reference, and print nothing. The tuple contains the reference to it. Punycode and function types are slow to print.
+WITHIN = {
+    "bytes within references": (2.2, "_RIC0NvCs" + "0" * 60 + "_1a1b" + back(3) * 95 + "0"),
+    "a target that leads to its own reference": (2.6, "_RYTB0_0" + "E" * 250),
+    "names in Punycode": (4, VAIN["names in Punycode"]),
+    "function types within references": (2.5, VAIN["ABIs and a reference to all"]),
 }
 # A symbol whose path contains itself, so that its print gives up and is in vain too. The search found it.
 GIVES_UP = "_RYB_Cu9bcher_kva." + "l" * 300
+
+
+def corpus_symbols(first, after):
+    """Returns the symbols of some lines of the corpus that are ASCII."""
+    with open(CORPUS, "rb") as file:
+        symbols = [line.split(b"\t")[0] for line in file.read().split(b"\n")[first:after]]
+    return [symbol.decode("ascii") for symbol in symbols if symbol.isascii()]
+
+
+def real_legacy_symbols():
+    """Returns the legacy symbols with a hash of the corpus."""
+    return list(dict.fromkeys(symbol for symbol in corpus_symbols(0, 800) if re.fullmatch(r"_ZN\S+17h[0-9a-f]{16}E", symbol)))
+
+
+def growing_memory():
+    """Returns a text at which a memo takes the most memory: its buffer grows for paths of up to 1,000,000 bytes, then its entries until
+    there is no more room for them, and then both are used by turns."""
+
+    def entry(number):
+        # It comes twice, since only then a symbol gets an entry: of 1,912 bytes, with a path of 1,905.
+        return ("_RNvC3foo1900%06d%s\n" % (number, "a" * 1894)) * 2
+
+    def long_path(number, many):
+        # An element of 6,000 bytes, which is repeated.
+        return "_RMC0TT" + "n" * 1000 + "E" + back(4) * many + "E.%06d\n" % number
+
+    growing = "".join(long_path(many, many) for many in (1, 2, 5, 10, 20, 40, 80, 85, 100, 140, 170))
+    filled = "".join(map(entry, range(1100)))
+    return growing + filled + "".join(entry(number) + long_path(number, 170) for number in range(1100, 1120))
 
 
 def real_symbols():
     """Returns the v0 symbols of real programs that the corpus and the measurements have."""
     with open(os.path.join(ROOT, "bench", "symbols.txt"), encoding="ascii") as file:
         symbols = file.read().replace("?", "7").split()
-    with open(CORPUS, "rb") as file:
-        lines = file.read().split(b"\n")[800:1700]
-    symbols += [line.split(b"\t")[0].decode("ascii") for line in lines]
+    symbols += corpus_symbols(800, 1700)
     return list(dict.fromkeys(symbol for symbol in symbols if symbol.startswith("_R") and symbol.isascii()))
 
 

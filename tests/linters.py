@@ -146,15 +146,14 @@ NEW_COUNTS = {
     "demangle_v0_parser/src/parse.rt": {"at_path": 1, "in_larger_stack": 1},
     "demangle_v0/src/printer.rt": {"print_validated": 1},
     "demangle_value/src/lib.rt": {"demangle": 1, "try_demangle": 1},
-    "demangle_value/src/value.rt": {"read_run": 1},
     "demangle_value/src/value/printing.rt": {"write_formatted": 1, "write_limited": 1, "write_folded": 1, "write_pieces_with_path_len": 1},
-    "kodliwe_program/src/filtering.rt": {"write_parts": 1},
+    "kodliwe_program/src/filtering.rt": {"write_parts": 1, "filter_all": 1},
     "rustc_demangle/src/slice.rt": {"demangle_slice_formatted": 1},
     "rustc_demangle/src/stream/bytes.rt": {"step": 1, "demangle_bytes_formatted": 1},
     "rustc_demangle/src/text.rt": {"put_text": 1},
 }
-# Crates that only test.
-TESTING = ("demangle_corpus", "demangle_vectors", "filter_tests", "kodliwe_tests", "test_doubles")
+# Crates that only test or measure.
+TESTING = ("demangle_calls", "demangle_corpus", "demangle_vectors", "filter_tests", "kodliwe_tests", "test_doubles")
 
 
 def new_counts(path):

@@ -344,7 +344,7 @@ def room(work):
     for folder in (tree, os.path.join(it.env["HOME"], ".cargo")):
         equal(run([os.path.join(folder, "bin", "kodliwe"), SYMBOL]), PATH + "\n")
     run(["cargo", "new", "--quiet", user], env=it.env)
-    it.timed(rust.replace("rust/", os.path.join(it.copy, "rust", "")), user)
+    it.timed(rust.replace("../kodliwe/", os.path.join(it.copy, "")), user)
     with open(os.path.join(user, "src", "main.rs"), "w", encoding="utf-8") as file:
         file.write('fn main() {\n    println!("{:#}", kodliwe::demangle("%s"));\n}\n' % SYMBOL)
     equal(run(["cargo", "run", "--quiet"], cwd=user, env=it.env), PATH + "\n")

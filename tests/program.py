@@ -25,9 +25,14 @@ It prints a line for each of these with each build, and at last how many passed:
   followed      finished lines are written while the input is still open
   replaced      --output replaces a file only when all is written, keeps its permissions, accepts an input as its own output,
                 follows a link, and leaves no other file
+  links         --output over links: they stay, and the file to which they lead is replaced or created; a loop, a link into a folder that
+                is missing, and one to a file that was removed are errors
+  foreign links a link of another user in a folder for all is followed only if the system does that
+  signals       a signal ends the program while it filters: no new file is left; while it renames: the complete file is left
   owners        root replaces a file of another user: owner, group and permissions stay, and no bit of set-uid, set-gid or sticky; a
                 user replaces a file of another user: the group stays if it is one of theirs, and otherwise the permissions narrow
-  private       if FILE exists, no other user may open the new file before it is complete; otherwise it has the mode that `>` gives
+  private       no other user may open the file that is written; the file with a name is private too until it is complete, or has the
+                mode that `>` gives if FILE is new
   unwritable    a file that the user may not write is not replaced
   descriptors   each standard stream is closed alone, and all are: no file gets its descriptor, and a stream that is needed is an error
   kept          an error leaves the file of --output unchanged
@@ -37,9 +42,10 @@ It prints a line for each of these with each build, and at last how many passed:
   requests      if an allocation fails, alone or with all later ones, it ends with one line and status 1; the written bytes are a
                 prefix of the output, and the file of --output is unchanged, with no other next to it; a run without its memo is
                 complete
-  guarded       if fsync, rename, fchmod or statx fails under --output: one line, status 1, the file is unchanged, and no other is
-                next to it; the file is synchronized before it gets its name
-  names         99 names for the unfinished file are taken, and then a hundred
+  guarded       if fsync, rename, fchmod, statx or unlink fails under --output: one line, status 1, the file is unchanged, and no other
+                is next to it but one that can't be removed; the file is synchronized before it gets its name
+  full disk     no room for the file, or for its copy: one line, status 1, the file is unchanged, and no other is next to it
+  names         150 names for the new file are taken, and then each: the line names the last
   waiting       an input that would have to wait is reported, and not read forever
   one call      each line of an error or a note is written by one call
   large         300,000 symbols, runs of 3 MB, a line of 5 MB, an argument of 130,000 bytes, a thousand files, a limit of 0
@@ -49,9 +55,10 @@ It prints a line for each of these with each build, and at last how many passed:
   manual        docs/kodliwe.1 has each option and is laid out without a warning
   completions   bash, zsh and fish offer each option, and bash the files of an option after its =
   prompts       at the prompts of bash, zsh and fish: files after < and >, and no short options in one word
-  filter        over the stored corpus and hostile symbols, each run has the output of demangle_filter, except for what the
-                bytes before it change, and for the paths that are cut earlier, of which there are 9 and 6
-  preceded      the bytes before a symbol determine what its path takes the place of, also where the input is cut
+  filter        over the stored corpus and hostile symbols, each run has the output of demangle_filter, except for runs that
+                begin with _RC, a _ before a run, and the paths that are cut earlier, of which there are 9 and 6
+  preceded      runs that begin with _RC stay, and each other symbol is replaced after any byte, with one _ of macOS, also where the
+                input is cut and in an argument; an argument that is a symbol as a whole prints its path
   underscored   lines of nm print the same with an underscore before each symbol, as macOS has them
   kinds         lines of nm, objdump, three linkers' maps, perf, backtraces, sanitizers and JSON: each real symbol of the corpus is
                 replaced by its stored path
@@ -68,7 +75,7 @@ It prints a line for each of these with each build, and at last how many passed:
 
 `make` builds the programs. The last line is 'N passed, N failed'. A missing tool is a failure.
 """
-import argparse, bz2, fcntl, functools, gzip, lzma, os, pty, re, resource, select, shutil, signal, socket, stat, struct, subprocess
+import argparse, bz2, errno, fcntl, functools, gzip, lzma, os, pty, re, resource, select, shutil, signal, socket, stat, struct, subprocess
 import sys, tempfile, termios, threading, time
 
 import texts
@@ -201,6 +208,10 @@ def missing():
     same(run("-o", "plain/out", "_ZN1aE"), (b"", "kodliwe: plain: Not a directory\n", 1))
     same(run("-i", "", "_ZN1aE"), (b"", "kodliwe: '': No such file or directory\n", 1))
     same(run("-i", "a\x1b[1m"), (b"", "kodliwe: 'a\\u{1b}[1m': No such file or directory\n", 1))
+    # A quote and a backslash are printable, and are only escaped beside what is not.
+    for name in ["it's", 'a "name"', "a\\b", "\\'\"", "äöü ☃"]:
+        same(run("-i", name), (b"", "kodliwe: %s: No such file or directory\n" % name, 1))
+    same(run("-i", "it's\t\\"), (b"", "kodliwe: 'it\\'s\\t\\\\': No such file or directory\n", 1))
     same(run("-o", "folder", "_ZN1aE"), (b"", "kodliwe: folder: Is a directory\n", 1))
     with open("folder/../closed", "wb") as file:
         ran = subprocess.run([program()], stdin=file, stdout=subprocess.PIPE, stderr=subprocess.PIPE, timeout=120)
@@ -221,6 +232,8 @@ def noted():
     same(run("crashes"), (b"crashes\n", "", 0))
     write("line\nfeed", b"")
     same(run("line\nfeed"), (b"line\nfeed\n", "kodliwe: note: 'line\\nfeed' is a file; use -i to read it\n", 0))
+    write("it's \\", b"")
+    same(run("it's \\"), (b"it's \\\n", "kodliwe: note: 'it's \\' is a file; use -i to read it\n", 0))
     write("_ZN1aE", b"")
     same(run("_ZN1aE"), (b"a\n", "", 0))
 
@@ -301,6 +314,124 @@ def replaced():
     same(sorted(os.listdir("replaced")), ["link", "new", "new.kodliwe-0", "out"])
 
 
+def links():
+    os.mkdir("links")
+    os.mkdir("links/far")
+    os.chdir("links")
+    # Each link, what it says, and the file that is created.
+    for link, target, found in [
+        ("near", "made", "made"),
+        ("deep", "far/made", "far/made"),
+        ("far/up", "../up", "up"),
+        ("whole", os.path.abspath("far/whole"), "far/whole"),
+        ("first", "far/second", "far/third"),
+    ]:
+        os.symlink("third", "far/second") if link == "first" else None
+        os.symlink(target, link)
+        for text in [b"foo\n", b"a\n"]:
+            same(run("-o", link, "_ZN3fooE" if text == b"foo\n" else "_ZN1aE"), (b"", "", 0))
+            same((os.readlink(link), os.path.islink(found), read(found)), (target, False, text))
+        os.chmod(found, 0o604)
+        same(run("-o", link, "-i", link), (b"", "", 0))
+        same((read(found), stat.S_IMODE(os.stat(found).st_mode)), (b"a\n", 0o604))
+    made = ["far", "near", "deep", "whole", "first", "made", "up"], ["up", "made", "whole", "second", "third"]
+    same((sorted(os.listdir(".")), sorted(os.listdir("far"))), tuple(map(sorted, made)))
+    # From another folder, and to nothing but the mode that the system gives.
+    os.symlink("new", "far/new_link")
+    old = os.umask(0o026)
+    try:
+        same(run("-o", "links/far/new_link", FOO, cwd=".."), (b"", "", 0))
+    finally:
+        os.umask(old)
+    same((read("far/new"), stat.S_IMODE(os.stat("far/new").st_mode)), (b"foo\n", 0o640))
+    # Each error says what is in the way, and changes nothing.
+    before = sorted(os.listdir(".")), sorted(os.listdir("far"))
+    os.symlink("self", "self"), os.symlink("two", "one"), os.symlink("one", "two")
+    os.symlink("none/made", "no_folder"), os.symlink("far/gone/made", "far_folder"), os.symlink("made/x", "no_file")
+    os.symlink("no_folder", "to_none")
+    for link, line in [
+        ("self", "self: Too many levels of symbolic links"),
+        ("one", "one: Too many levels of symbolic links"),
+        ("to_none", "none: No such file or directory"),
+        ("no_folder", "none: No such file or directory"),
+        ("far_folder", "far/gone: No such file or directory"),
+        ("no_file", "made: Not a directory"),
+    ]:
+        same(run("-o", link, FOO), (b"", "kodliwe: %s\n" % line, 1))
+        assert os.path.islink(link), link
+        os.remove(link)
+    os.remove("two")
+    same((sorted(os.listdir(".")), sorted(os.listdir("far"))), before)
+    gone = os.open("gone", os.O_RDWR | os.O_CREAT)
+    os.remove("gone")
+    line = "kodliwe: %s (deleted): No such file or directory\n" % os.path.abspath("gone")
+    same(run("-o", "/dev/fd/%d" % gone, FOO, pass_fds=[gone]), (b"", line, 1))
+    same((os.fstat(gone).st_size, sorted(os.listdir("."))), (0, before[0]))
+    os.close(gone)
+
+
+def foreign_links():
+    """Follows a link of another user in a folder for all only if the system does, as for `>`."""
+    if os.geteuid() != 0:
+        raise Lacking("no root, which alone has files of two users")
+    os.mkdir("shared")
+    os.chmod("shared", 0o1777)
+    os.symlink("made", "shared/link")
+    os.lchown("shared/link", NOBODY, NOBODY)
+    follows = subprocess.run(["sh", "-c", "> shared/link"], stderr=subprocess.DEVNULL).returncode == 0
+    same(os.path.exists("shared/made"), follows)
+    for made in [False, True]:
+        text = write("shared/made", b"old") if made else None
+        os.remove("shared/made") if follows and not made else None
+        line = "" if follows else "kodliwe: shared/link: Permission denied\n"
+        same(run("-o", "shared/link", FOO), (b"", line, 0 if follows else 1))
+        same(os.listdir("shared").count("made"), 1 if follows or text else 0)
+        same(read("shared/made") if os.path.exists("shared/made") else None, b"foo\n" if follows else text and b"old")
+        assert os.path.islink("shared/link")
+    return "the system %s them" % ("follows" if follows else "does not follow")
+
+
+def end_by(number):
+    """Returns what lets this signal end a new process, though this one may ignore it."""
+    return lambda: signal.signal(number, signal.SIG_DFL) if number != signal.SIGKILL else None
+
+
+def files_of(folder):
+    return {name: read(os.path.join(folder, name)) for name in os.listdir(folder) if os.path.exists(os.path.join(folder, name))}
+
+
+def signals():
+    os.mkfifo("fifo")
+    for number in [signal.SIGINT, signal.SIGTERM, signal.SIGHUP, signal.SIGQUIT, signal.SIGKILL]:
+        for name in ["out", "new", "link", "dangling"]:
+            shutil.rmtree("signals", ignore_errors=True)
+            os.mkdir("signals")
+            write("signals/out", b"old")
+            os.symlink("out", "signals/link"), os.symlink("new", "signals/dangling")
+            ran = subprocess.Popen([program(), "-i", "fifo", "-o", "signals/" + name], preexec_fn=end_by(number), cwd=".")
+            with open_fifo("fifo", ran) as file:
+                file.write(b"_ZN1aE\n" * 100_000)
+                file.flush()
+                opened = unnamed_file(ran.pid)
+                until = time.monotonic() + 20
+                while os.stat(opened).st_size == 0:
+                    assert time.monotonic() < until, "nothing is written"
+                ran.send_signal(number)
+                same(ran.wait(20), -number)
+            same(files_of("signals"), {"out": b"old", "link": b"old"})
+            same(sorted(os.listdir("signals")), ["dangling", "link", "out"])
+    # In the last moment the new file has a name. It is complete then, and is in nobody's way.
+    build_guard()
+    write("signals/out", b"old")
+    for left in range(1, 4):
+        env = guard_env("none", KILLED="fsync")
+        same(run("-o", "signals/out", FOO, env=env, preexec_fn=end_by(signal.SIGTERM)), (b"", "", -signal.SIGTERM))
+        found = files_of("signals")
+        same((found["out"], found["out.kodliwe-%d" % (left - 1)], len(os.listdir("signals"))), (b"old", b"foo\n", 3 + left))
+    same(run("-o", "signals/out", "_ZN1aE"), (b"", "", 0))
+    same((read("signals/out"), len(os.listdir("signals"))), (b"a\n", 6))
+
+
 NOBODY = 65534
 
 
@@ -376,17 +507,44 @@ def unwritable():
         os.remove("folder/out")
 
 
+def unnamed_file(pid):
+    """Waits until a process has opened a regular file and removed its name, and returns the path of its descriptor."""
+    until = time.monotonic() + 20
+    folder = "/proc/%d/fd/" % pid
+    while time.monotonic() < until:
+        for number in os.listdir(folder):
+            if re.search(r"\.kodliwe-[0-9]+ \(deleted\)$", os.readlink(folder + number)):
+                return folder + number
+        time.sleep(0.001)
+    raise AssertionError("no file without a name is open")
+
+
+def open_fifo(name, reader):
+    """Opens a pipe with a name, to write to it, as soon as the process reads it."""
+    until = time.monotonic() + 20
+    while time.monotonic() < until and reader.poll() is None:
+        try:
+            number = os.open(name, os.O_WRONLY | os.O_NONBLOCK)
+            os.set_blocking(number, True)
+            return os.fdopen(number, "wb")
+        except OSError as error:
+            assert error.errno == errno.ENXIO, error
+        time.sleep(0.001)
+    raise AssertionError("%s is not read" % name)
+
+
 def private():
     os.mkdir("private")
     os.mkfifo("fifo")
     old = os.umask(0)
     try:
         os.chmod(write("private/out", b"old"), 0o666)
-        for name, while_written in [("out", 0o600), ("new", 0o666)]:
+        for name, before in [("out", ["out"]), ("new", ["out"])]:
             ran = subprocess.Popen([program(), "-i", "fifo", "-o", "private/" + name])
-            with open("fifo", "wb") as file:
+            with open_fifo("fifo", ran) as file:
                 file.write(b"_ZN1aE\n")
-                same(stat.S_IMODE(os.stat("private/%s.kodliwe-0" % name).st_mode), while_written)
+                same(stat.S_IMODE(os.stat(unnamed_file(ran.pid)).st_mode), 0o600)
+                same(os.listdir("private"), before)
             same((ran.wait(20), read("private/" + name)), (0, b"a\n"))
             same(stat.S_IMODE(os.stat("private/" + name).st_mode), 0o666)
     finally:
@@ -575,94 +733,169 @@ def requests():
     return "%d runs" % tried
 
 
-# Lets the call fail that the variable REFUSED names, and adds a line to the file CALLS for each of these calls.
+# Lets the call fail that the variable REFUSED names, or ends the program at the one that KILLED names. It adds a line to the file
+# CALLS for each of these calls, with the mode of the file. It also lets each open fail of a path with the text TAKEN.
 GUARDED = r"""
 #define _GNU_SOURCE
 #include <dlfcn.h>
 #include <errno.h>
 #include <fcntl.h>
+#include <signal.h>
+#include <stdarg.h>
 #include <string.h>
 #include <stdio.h>
 #include <stdlib.h>
 #include <sys/stat.h>
 #include <unistd.h>
 
-static int is_refused(const char *call, int error) {
+static int is_refused(const char *call, int error, int named) {
+    struct stat found = {0};
     FILE *file = fopen(getenv("CALLS"), "a");
-    fprintf(file, "%s\n", call);
+    if (named >= 0)
+        fstat(named, &found);
+    fprintf(file, "%s %o\n", call, found.st_mode & 07777);
     fclose(file);
+    if (strcmp(getenv("KILLED"), call) == 0)
+        raise(SIGTERM);
     errno = error;
     return strcmp(getenv("REFUSED"), call) == 0;
 }
 
+static int open_untaken(const char *name, const char *path, int flags, unsigned mode) {
+    int (*real)(const char *, int, unsigned) = (int (*)(const char *, int, unsigned))dlsym(RTLD_NEXT, name);
+    if (*getenv("TAKEN") && strstr(path, getenv("TAKEN"))) {
+        errno = EEXIST;
+        return -1;
+    }
+    return real(path, flags, mode);
+}
+
+int open(const char *path, int flags, ...) {
+    va_list rest;
+    va_start(rest, flags);
+    unsigned mode = va_arg(rest, unsigned);
+    va_end(rest);
+    return open_untaken("open", path, flags, mode);
+}
+
+int open64(const char *path, int flags, ...) {
+    va_list rest;
+    va_start(rest, flags);
+    unsigned mode = va_arg(rest, unsigned);
+    va_end(rest);
+    return open_untaken("open64", path, flags, mode);
+}
+
+int unlink(const char *path) {
+    int (*real)(const char *) = (int (*)(const char *))dlsym(RTLD_NEXT, "unlink");
+    return is_refused("unlink", EPERM, -1) ? -1 : real(path);
+}
+
 int fsync(int file) {
     int (*real)(int) = (int (*)(int))dlsym(RTLD_NEXT, "fsync");
-    return is_refused("fsync", EIO) ? -1 : real(file);
+    return is_refused("fsync", EIO, file) ? -1 : real(file);
 }
 
 int rename(const char *from, const char *to) {
     int (*real)(const char *, const char *) = (int (*)(const char *, const char *))dlsym(RTLD_NEXT, "rename");
-    return is_refused("rename", EACCES) ? -1 : real(from, to);
+    return is_refused("rename", EACCES, -1) ? -1 : real(from, to);
 }
 
 int fchmod(int file, mode_t mode) {
     int (*real)(int, mode_t) = (int (*)(int, mode_t))dlsym(RTLD_NEXT, "fchmod");
-    return is_refused("fchmod", EPERM) ? -1 : real(file, mode);
+    return is_refused("fchmod", EPERM, file) ? -1 : real(file, mode);
 }
 
 int statx(int folder, const char *path, int flags, unsigned mask, struct statx *found) {
     int (*real)(int, const char *, int, unsigned, struct statx *) =
         (int (*)(int, const char *, int, unsigned, struct statx *))dlsym(RTLD_NEXT, "statx");
-    return is_refused("statx", EACCES) ? -1 : real(folder, path, flags, mask, found);
+    return is_refused("statx", EACCES, -1) ? -1 : real(folder, path, flags, mask, found);
 }
 """
+# The file or folder that the line names if a call fails, why, and the files that are left.
 REASONS = {
-    "fsync": "Input/output error",
-    "rename": "Permission denied",
-    "fchmod": "Operation not permitted",
-    "statx": "Permission denied",
+    "fsync": ("guarded/out", "Input/output error", {}),
+    "rename": ("guarded/out", "Permission denied", {}),
+    "fchmod": ("guarded/out", "Operation not permitted", {}),
+    "statx": ("guarded", "Permission denied", {}),
+    "unlink": ("guarded/out.kodliwe-0", "Operation not permitted", {"out.kodliwe-0": b""}),
 }
 
 
-def run_guarded(refused):
-    """Returns the results of a run over a file in which the call failed, the files of its folder, and the calls in their order."""
+def build_guard():
+    write("guard.c", GUARDED.encode())
+    subprocess.run([tool("cc", "gcc"), "-O1", "-shared", "-fPIC", "guard.c", "-o", "guard.so", "-ldl"], check=True)
+
+
+def guard_env(refused, **more):
+    """Returns the environment in which this call fails."""
+    write("calls", b"")
+    env = dict(LD_PRELOAD=os.path.abspath("guard.so"), REFUSED=refused, KILLED="", TAKEN="", CALLS=os.path.abspath("calls"))
+    return dict(env, **more)
+
+
+def run_guarded(refused, name="out"):
+    """Returns the results of a run over a file in which the call failed, the files of its folder, and the calls in their order, with
+    the mode of the file."""
     shutil.rmtree("guarded", ignore_errors=True)
     os.mkdir("guarded")
     os.chmod(write("guarded/out", b"old"), 0o640)
-    write("calls", b"")
-    env = dict(LD_PRELOAD=os.path.abspath("guard.so"), REFUSED=refused, CALLS=os.path.abspath("calls"))
-    found = run("-o", "guarded/out", FOO, env=env)
-    return found, {name: read("guarded/" + name) for name in os.listdir("guarded")}, read("calls").decode().split()
+    found = run("-o", "guarded/" + name, FOO, env=guard_env(refused))
+    return found, files_of("guarded"), read("calls").decode().splitlines()
 
 
 def guarded():
-    write("guard.c", GUARDED.encode())
-    subprocess.run([tool("cc", "gcc"), "-O1", "-shared", "-fPIC", "guard.c", "-o", "guard.so", "-ldl"], check=True)
-    found, files, calls = run_guarded("none")
-    same((found, files), ((b"", "", 0), {"out": b"foo\n"}))
-    same(stat.S_IMODE(os.stat("guarded/out").st_mode), 0o640)
-    same([call for call in calls if call != "statx"], ["fchmod", "fsync", "rename"])
+    build_guard()
+    old = os.umask(0o026)
+    try:
+        # Before it is complete, only its owner may open a file that replaces one.
+        for name, wanted in [("out", ["unlink 0", "fchmod 600", "fsync 640", "rename 0"]), ("new", ["unlink 0", "fsync 640", "rename 0"])]:
+            found, files, calls = run_guarded("none", name)
+            same((found, files), ((b"", "", 0), {"out": b"old", name: b"foo\n"}))
+            same(stat.S_IMODE(os.stat("guarded/" + name).st_mode), 0o640)
+            same([call for call in calls if not call.startswith("statx")], wanted)
+    finally:
+        os.umask(old)
     # Rust's library calls statx by its number, where no other function can take its place.
     reasons = {call: reason for call, reason in REASONS.items() if is_proved() or call != "statx"}
-    for refused, reason in reasons.items():
+    for refused, (name, reason, left) in reasons.items():
         found, files, calls = run_guarded(refused)
-        name = "guarded" if refused == "statx" else "guarded/out"
         same(found, (b"", "kodliwe: %s: %s\n" % (name, reason), 1))
-        same(files, {"out": b"old"})
-        assert refused in calls, calls
+        same(files, dict(left, out=b"old"))
+        assert refused in [call.split()[0] for call in calls], calls
     return "%d calls refused" % len(reasons)
 
 
+def full_disk():
+    """Fills a disk of 1 MB: with the file that has no name, and with the copy that has one."""
+    if os.geteuid() != 0:
+        raise Lacking("no root, which alone mounts a disk")
+    tool("unshare", "util-linux")
+    os.mkdir("disk")
+    script = 'mount -t tmpfs -o size=1M none disk && printf old > disk/out && "$@"; echo $?; ls disk; cat disk/out'
+    for size, line in [(2_000_000, "kodliwe: write failed: %s\n"), (700_000, "kodliwe: disk/out: %s\n"), (400_000, "")]:
+        text = write("text", b"x" * size)
+        words = ["unshare", "-m", "sh", "-c", script, "sh", program(), "-i", text, "-o", "disk/out"]
+        ran = subprocess.run(words, stdout=subprocess.PIPE, stderr=subprocess.PIPE, timeout=60)
+        told = line % "No space left on device" if line else ""
+        same(ran.stderr.decode(), told)
+        same(ran.stdout, (b"1\nout\nold" if line else b"0\nout\n" + b"x" * size))
+
+
 def names():
-    """Takes the first free name for the unfinished file, of a hundred."""
+    """Takes the first free name for the new file, after those of many runs that were killed."""
     os.mkdir("names")
-    for number in range(99):
+    for number in range(150):
         write("names/out.kodliwe-%d" % number, b"of another run")
-    same(run("-o", "names/out", FOO), (b"", "", 0))
-    same((read("names/out"), len(os.listdir("names"))), (b"foo\n", 100))
-    write("names/out.kodliwe-99", b"of another run")
-    same(run("-o", "names/out", "_ZN1aE"), (b"", "kodliwe: names/out: entity already exists\n", 1))
-    same((read("names/out"), len(os.listdir("names"))), (b"foo\n", 101))
+    for text in [b"foo\n", b"a\n"]:
+        same(run("-o", "names/out", "_ZN3fooE" if text == b"foo\n" else "_ZN1aE"), (b"", "", 0))
+        same((read("names/out"), len(os.listdir("names"))), (text, 151))
+    same({read("names/out.kodliwe-%d" % number) for number in range(150)}, {b"of another run"})
+    # If a file has each name, the line says which is the last.
+    build_guard()
+    env = guard_env("none", TAKEN="out.kodliwe-")
+    same(run("-o", "names/out", FOO, env=env), (b"", "kodliwe: names/out.kodliwe-999999: File exists\n", 1))
+    same((read("names/out"), len(os.listdir("names"))), (b"a\n", 151))
 
 
 def waiting():
@@ -831,26 +1064,31 @@ RUN = re.compile(rb"(?:_ZN|_R)[0-9A-Za-z_.$]*")
 
 def paths_of_runs(text, ours, words):
     """
-    Returns the path of each run, or the run itself, and how many paths kodliwe cuts earlier than demangle_filter. All others are what
-    demangle_filter prints with the words.
+    Returns the path of each run, or the run itself, and how many paths kodliwe cuts earlier than demangle_filter. Runs that begin with
+    `_RC` stay. All others are what demangle_filter prints with the words.
     """
-    given = b"\n".join(RUN.findall(text))
+    runs = RUN.findall(text)
+    given = b"\n".join(runs)
     ran = subprocess.run([line_filter(), *words], input=given, stdout=subprocess.PIPE, check=True, timeout=120)
     paths = run(*ours, text=given)[0].split(b"\n")
-    cut = [(path, whole) for path, whole in zip(paths, ran.stdout.split(b"\n"), strict=True) if path != whole]
-    for path, whole in cut:
-        assert texts.is_cut_earlier(path, whole), "%r.. is neither the path nor its start" % path[:100]
-    return paths, len(cut)
+    cut = 0
+    for found, path, whole in zip(runs, paths, ran.stdout.split(b"\n"), strict=True):
+        if found.startswith(b"_RC"):
+            assert path == found, "%r.. does not stay" % found[:100]
+        elif path != whole:
+            assert texts.is_cut_earlier(path, whole), "%r.. is neither the path nor its start" % path[:100]
+            cut += 1
+    return paths, cut
 
 
 def by_runs(text, paths):
-    """The text with each run replaced that has no letter or digit before it; a path also replaces a single `_` before its run."""
+    """The text with each run replaced by its path; that also replaces a single `_` before the run."""
     left = iter(paths)
     parts, kept = [], 0
     for found in RUN.finditer(text):
         path, start = next(left), found.start()
         before = text[max(kept, start - 2) : start]
-        if path == found[0] or before[-1:].isalnum():
+        if path == found[0]:
             continue
         if re.fullmatch(rb"[^0-9A-Za-z_.$]?_", before, re.DOTALL):
             start -= 1
@@ -934,11 +1172,22 @@ def filter_():
             assert found == (by_runs(text, paths), "", 0), "the output differs, with %r" % ours
 
 
-# Texts whose bytes before a run matter, and their output.
+# Texts whose runs stay, or whose bytes before a run matter, and their output.
 BEFORE = [
     (b"tag v1.0_RC0 released", b"tag v1.0_RC0 released"),
     (b"SW_RC0.zip CLK_RC1M", b"SW_RC0.zip CLK_RC1M"),
     (b"firmware_RC2.1.tar.gz", b"firmware_RC2.1.tar.gz"),
+    (b"int _RC0 = 1;", b"int _RC0 = 1;"),
+    (b"_RC1a __RC1a\n__RC1a_ZN3fooE", b"_RC1a __RC1a\n__RC1a_ZN3fooE"),
+    (b"_RC2_40 0_RC4_FLAG config_Release __REG", b"_RC2_40 0_RC4_FLAG config_Release __REG"),
+    (b"_RMC3foox _RXC0uC1t a_RYsC5h05af (__RMC3foox", b"<i64> <() as t> a<i16 as h05af> (<i64>"),
+    (b'{"at":"a\\n_RNvC3foo3bar\\t_ZN3fooE%20_ZN3fooE"}', b'{"at":"a\\nfoo::bar\\tfoo%20foo"}'),
+    (b'{"at":"a\\r\\n_RNvC3foo3bar\\r\\n"} %20_RNvC3foo3bar', b'{"at":"a\\r\\nfoo::bar\\r\\n"} %20foo::bar'),
+    (b"\x1b[31m_RNvC3foo3bar\x1b[0m L_ZN3fooE 0_ZN3fooE", b"\x1b[31mfoo::bar\x1b[0m Lfoo 0foo"),
+    # As grep --color, strace and Python write it.
+    (b"T \x1b[01;31m\x1b[K_RNvC3foo3bar\x1b[m\x1b[K", b"T \x1b[01;31m\x1b[Kfoo::bar\x1b[m\x1b[K"),
+    (b'write(1, "x\\n_RNvC3foo3bar\\t_ZN3foo"..., 40) = 40', b'write(1, "x\\nfoo::bar\\t_ZN3foo"..., 40) = 40'),
+    (b"b'\\x00_RNvC3foo3bar\\xff_ZN3fooE' .L_RNvC3foo3bar", b"b'\\x00foo::bar\\xfffoo' .Lfoo::bar"),
     (b".text._ZN3fooE GCC_except_table1._ZN3fooE", b".text.foo GCC_except_table1.foo"),
     (b"__imp__ZN3fooE $_ZN3fooE <_ZN3fooE>", b"__imp_foo $foo <foo>"),
     (b"__ZN3foo3barE", b"foo::bar"),
@@ -967,6 +1216,11 @@ def preceded():
         for cut in range(1, len(text)):
             same(run_cut(text[:cut], text[cut:]), wanted)
         same(run(text=(text + b"\n") * 3000), ((wanted + b"\n") * 3000, "", 0))
+        # An argument that is no symbol as a whole is such a text.
+        if b"\n" not in text and text[:1] not in b"-_":
+            same(run(text), (wanted + b"\n", "", 0))
+    # One that is a symbol prints its path, also if it begins with `_RC`.
+    same(run("_RC3foo", "__RC3foo", "RC3foo", "_RC0", "x _RC3foo"), (b"foo\nfoo\nfoo\n\nx _RC3foo\n", "", 0))
 
 
 def underscored():
@@ -1311,6 +1565,9 @@ CHECKS = [
     closed,
     followed,
     replaced,
+    links,
+    foreign_links,
+    signals,
     owners,
     private,
     unwritable,
@@ -1321,6 +1578,7 @@ CHECKS = [
     memory,
     requests,
     guarded,
+    full_disk,
     names,
     waiting,
     one_call,

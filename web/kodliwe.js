@@ -97,11 +97,11 @@ function kodliweEngine() {
 
     /**
      * Yields the symbols of a text in order, each as { start, end, path }. The start and the end
-     * count UTF-16 code units. The path is null if a candidate only starts like a symbol, or follows
-     * an ASCII letter or digit. A single `_` before a symbol belongs to it, if the `_` is the first
-     * character or follows one that no symbol may have. The call limit() returns the most bytes of
-     * each path. The references of a symbol also cut its path, as in `demangle`. Another call of
-     * the module overwrites its memory. After one, the later symbols must not be used.
+     * count UTF-16 code units. The path is null if a candidate only starts like a symbol, or begins
+     * with `_RC`. A single `_` before a symbol belongs to it, if the `_` is the first character or
+     * follows one that no symbol may have. The call limit() returns the most bytes of each path.
+     * The references of a symbol also cut its path, as in `demangle`. Another call of the module
+     * overwrites its memory. After one, the later symbols must not be used.
      */
     function* symbols(text, { hash = false, fold = false, limit = () => MOST } = {}) {
       putUnits(text);
@@ -110,10 +110,8 @@ function kodliweEngine() {
         const start = at + Number(wasm.kodliwe_run_start(BigInt(at), BigInt(next - at)));
         if (start === next) return;
         const end = start + Number(wasm.kodliwe_run_len(BigInt(start), BigInt(next - start)));
-        const plain = wasm.kodliwe_plain_len(BigInt(at), BigInt(start - at));
-        // The result is usize::MAX after a letter or a digit, and JavaScript takes that for -1.
-        const isKept = plain < 0n;
-        const from = isKept ? start : at + Number(plain);
+        const from = at + Number(wasm.kodliwe_plain_len(BigInt(at), BigInt(start - at)));
+        const isKept = wasm.kodliwe_stays(BigInt(from), BigInt(end - from)) !== 0;
         const path = isKept ? null : pathAt(from, end - from, next, { hash, fold, limit: limit() });
         yield { start: from - base, end: end - base, path };
         at = end;

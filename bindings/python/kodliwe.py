@@ -257,7 +257,7 @@ def demangle_text(text: AnyStr, hash: bool = False, limit: Optional[int] = None,
     """Returns the text with each Rust symbol in it replaced by its path, and the rest unchanged.
 
     A candidate symbol starts at ``_ZN`` or ``_R``. It ends before the next character that is not an ASCII letter, a digit,
-    ``$``, ``.`` or ``_``. After a letter or a digit it stays. A single ``_`` before a symbol, as macOS has it, is replaced with
+    ``$``, ``.`` or ``_``. It stays if it begins with ``_RC``. A single ``_`` before a symbol, as macOS has it, is replaced with
     it, if the ``_`` is the first character or follows one that no symbol may have. The arguments ``hash``, ``limit`` and
     ``fold`` are those of ``demangle``, for each symbol. Without a limit, the path of a symbol of n bytes ends after at most
     999 n - 20 bytes, and a million. So the text gets at most 1,000 bytes for each of its own. A path also ends where the

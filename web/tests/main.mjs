@@ -4,6 +4,7 @@ import { parseArgs } from "node:util";
 import { program } from "./driver.mjs";
 import { testModule } from "./module.mjs";
 import { testPage } from "./page.mjs";
+import { testWorker } from "./worker.mjs";
 
 const { values, positionals } = parseArgs({ options: { shots: { type: "string" } }, allowPositionals: true });
 let passed = 0, failed = 0;
@@ -37,6 +38,7 @@ if (unknown.length) {
 }
 if (values.shots) fs.mkdirSync(values.shots, { recursive: true });
 await guarded("module", () => testModule(check));
+await guarded("worker", () => testWorker(check));
 for (const kind of positionals.length ? positionals : ["chromium", "firefox"]) {
   if (program(kind)) {
     await guarded(kind, () => testPage(kind, check, values.shots));

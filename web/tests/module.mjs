@@ -144,6 +144,16 @@ function joined(it, text, options) {
   return result + text.slice(kept);
 }
 
+// A limit of over 1,000,000 takes no more room. In `symbols`, each path has a limit of its own.
+function testLimits(it, check) {
+  const paths = (limit) => [...it.symbols("_ZN3foo3barE _ZN3foo3barE _ZN3foo3barE", { limit })].map((one) => one.path).join();
+  for (const limit of [MOST + 1, 2 ** 40, Number.MAX_SAFE_INTEGER]) {
+    check(`a limit of ${limit}`, () => it.demangle("_ZN3foo3barE", { limit }) === "foo::bar" && paths(() => limit) === "foo::bar,foo::bar,foo::bar");
+  }
+  const limits = [4, 8, 0];
+  check("a limit for each symbol", paths(() => limits.shift()) === `foo${MARKER},foo::bar,${MARKER}` && limits.length === 0);
+}
+
 // A text of 10 KB whose paths are over 60,000 times as long as their symbols, if only a limit of bytes cuts them.
 function testNoLimit(it, check) {
   const text = "_RMC0FG15FTGf_Eu\n".repeat(600);
@@ -154,7 +164,10 @@ function testNoLimit(it, check) {
 
 // Texts with a candidate near the 16,384th byte, where a piece of a text ends.
 function testPieces(it, check) {
-  const pairs = [[" _RNvC3foo3bar", " foo::bar"], ["a_RC1a __RC1a", "a_RC1a a"], ["é__ZN3fooEß", "éfooß"], ["€._RC1a", "€.a"], ["𝕂_RC1a", "𝕂a"]];
+  const pairs = [
+    [" _RNvC3foo3bar", " foo::bar"], ["a_RC1a __ZN1aE", "a_RC1a a"], ["é__ZN3fooEß", "éfooß"], ["€._ZN1aE", "€.a"], ["𝕂_ZN1aE", "𝕂a"],
+    ["\\n_RNvC3foo3bar", "\\nfoo::bar"], ["\x1b[31m_ZN1aE", "\x1b[31ma"], ["_RC2_40 ", "_RC2_40 "],
+  ];
   const wrong = [];
   for (const [symbol, path] of pairs) {
     for (let at = 16_384 - 20; at < 16_384 + 3; at++) {
@@ -163,6 +176,30 @@ function testPieces(it, check) {
     }
   }
   check("the end of a piece changes nothing", wrong.length === 0, wrong.slice(0, 3).join(" | "));
+}
+
+// Counts the bytes that the module is called for: each text is printed once, in pieces of at least 16,384 bytes.
+async function testCalls(kodliwe, bytes, check) {
+  const { instantiate } = WebAssembly;
+  const sizes = [];
+  WebAssembly.instantiate = async (...given) => {
+    const { instance } = await instantiate(...given);
+    const print = instance.exports.kodliwe_demangle_text;
+    const counted = (at, size, ...more) => {
+      sizes.push(Number(size));
+      return print(at, size, ...more);
+    };
+    return { instance: { exports: { ...instance.exports, kodliwe_demangle_text: counted } } };
+  };
+  const loaded = kodliwe.load(bytes);
+  WebAssembly.instantiate = instantiate;
+  const it = await loaded;
+  const binder = "_RMC0FGZZZZZZZZZZ_Eu";
+  // The memory grows for this path, which fills it up to a few bytes.
+  check("a long path as the first", () => it.demangle(binder, { limit: 500_000 }).length > 500_000);
+  const text = `${binder}${".a".repeat(40)}\n`.repeat(600);
+  check("no text is printed twice", it.demangleText(text).length > 1_000_000 && sizes.reduce((sum, size) => sum + size) === text.length);
+  check("a text has few pieces", sizes.length <= text.length / 16_384 + 1, `${sizes.length} of ${text.length} bytes`);
 }
 
 // The programs that the module is compared with, each with its options and those of the module.
@@ -199,11 +236,20 @@ export async function testModule(check) {
     check("module.js has the module that is built", false, `no ${BUILT}: web/build makes it`);
   }
   check("64-bit memory is told", kodliwe.isSupported());
+  check("its lack is told", () => {
+    const { validate } = WebAssembly;
+    WebAssembly.validate = () => false;
+    try {
+      return !kodliwe.isSupported();
+    } finally {
+      WebAssembly.validate = validate;
+    }
+  });
   const { imports, exports } = { imports: WebAssembly.Module.imports, exports: WebAssembly.Module.exports };
   const compiled = new WebAssembly.Module(bytes);
   check("the module asks nothing of its page", imports(compiled).length === 0);
   const named = exports(compiled).map((one) => one.name).filter((one) => one.startsWith("kodliwe_")).sort();
-  check("its calls", named.join() === "kodliwe_demangle_folded,kodliwe_demangle_limited,kodliwe_demangle_text,kodliwe_demangle_text_folded,kodliwe_is_symbol,kodliwe_plain_len,kodliwe_run_len,kodliwe_run_start", named.join(" "));
+  check("its calls", named.join() === "kodliwe_demangle_folded,kodliwe_demangle_limited,kodliwe_demangle_text,kodliwe_demangle_text_folded,kodliwe_is_symbol,kodliwe_plain_len,kodliwe_run_len,kodliwe_run_start,kodliwe_stays", named.join(" "));
   const it = await kodliwe.load(bytes);
   check("a path", () => it.demangle("_ZN3foo17h05af221e174051e9E") === "foo");
   check("a path with its hash", () => it.demangle("_ZN3foo17h05af221e174051e9E", { hash: true }) === "foo::h05af221e174051e9");
@@ -216,11 +262,12 @@ export async function testModule(check) {
   }
   check("a text without symbols", () => it.demangleText("_R _ZN\r\n") === "_R _ZN\r\n" && it.demangleText("") === "");
   check("a text's limit", () => it.demangleText("a _ZN3foo3barE b", { limit: 4 }) === "a foo{size limit reached} b");
-  for (const test of [testFolding, testCorpus, testFoldedCorpus, testNoLimit, testPieces, testBesideProgram]) {
+  for (const test of [testFolding, testCorpus, testFoldedCorpus, testLimits, testNoLimit, testPieces, testBesideProgram]) {
     try {
       test(it, check);
     } catch (error) {
       check(test.name, false, error.stack);
     }
   }
+  await testCalls(kodliwe, bytes, check);
 }

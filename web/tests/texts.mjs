@@ -46,11 +46,19 @@ export const HOSTILE_LINE = `${HOSTILE} `.repeat(5000);
 export const ODD = "\ufeffa\ud800 _ZN3foo3barE\udc00\r\n\0_RNvC3foo3bar\0\n\u{1f600}é _ZN3fooE\r";
 export const ODD_RESULT = "\ufeffa\ud800 foo::bar\udc00\r\n\0foo::bar\0\n\u{1f600}é foo\r";
 
-// Texts whose characters before a run matter, and their results.
+// Texts whose runs stay, or whose characters before a run matter, and their results.
 export const BEFORE = [
   ["tag v1.0_RC0 SW_RC0.zip", "tag v1.0_RC0 SW_RC0.zip"],
   [".text._ZN3fooE __imp__ZN3fooE é_ZN3fooE", ".text.foo __imp_foo éfoo"],
-  ["__ZN3fooE __RNvC3foo3bar\n__RC1a", "foo foo::bar\na"],
-  ["___ZN3fooE a__ZN3fooE .__RC1a __Rest", "__foo a_foo ._a __Rest"],
-  ["\ud800__RC1a a_RC1a", "\ud800a a_RC1a"],
+  ["int _RC0 = 1; __RC0 \ud800_RC1a", "int _RC0 = 1; __RC0 \ud800_RC1a"],
+  ["__ZN3fooE __RNvC3foo3bar\n__ZN1aE", "foo foo::bar\na"],
+  ["___ZN3fooE a__ZN3fooE .__ZN1aE __Rest", "__foo a_foo ._a __Rest"],
+  ["\ud800__ZN1aE a_ZN1aE", "\ud800a aa"],
+  ["a\\n_RNvC3foo3bar \x1b[31m_ZN3fooE\x1b[0m %20_ZN3fooE", "a\\nfoo::bar \x1b[31mfoo\x1b[0m %20foo"],
+  ['{"at":"a\\r\\n_RNvC3foo3bar\\t_ZN3fooE"} v1.0_RC0 _RC2_40 __RC0', '{"at":"a\\r\\nfoo::bar\\tfoo"} v1.0_RC0 _RC2_40 __RC0'],
+  // As grep --color, strace and Python write it.
+  ["T \x1b[01;31m\x1b[K_RNvC3foo3bar\x1b[m\x1b[K", "T \x1b[01;31m\x1b[Kfoo::bar\x1b[m\x1b[K"],
+  ['write(1, "x\\n_RNvC3foo3bar\\t_ZN3foo"..., 40) = 40', 'write(1, "x\\nfoo::bar\\t_ZN3foo"..., 40) = 40'],
+  ["b'\\x00_RNvC3foo3bar\\xff_ZN3fooE' L_ZN3fooE .L_RNvC3foo3bar", "b'\\x00foo::bar\\xfffoo' Lfoo .Lfoo::bar"],
+  ["config_Release __REG _RMC3foox a_RXC0uC1t _RYsC5h05af __RMC3foox", "config_Release __REG <i64> a<() as t> <i16 as h05af> <i64>"],
 ];

@@ -89,6 +89,24 @@ class Demangle(unittest.TestCase):
         with self.assertRaises(ValueError):
             kodliwe.demangle(LEGACY, limit=-1)
 
+    def test_a_limit_may_be_0(self):
+        for fold in (False, True):
+            self.assertEqual(kodliwe.demangle("_ZN3foo3barE.cold.7", limit=0, fold=fold), "{size limit reached}.cold.7")
+            self.assertEqual(kodliwe.try_demangle(LEGACY, limit=0, fold=fold), "{size limit reached}")
+            text = "a %s b _RNvC3foo3bar\n" % LEGACY
+            self.assertEqual(kodliwe.demangle_text(text, limit=0, fold=fold), "a {size limit reached} b {size limit reached}\n")
+
+    def test_a_limit_may_be_any_number(self):
+        # Each is 0, 1 or the greatest number in 64 bits.
+        for limit in (2**64, 2**64 + 1, 2**64 - 1, 2**128):
+            for fold in (False, True):
+                self.assertEqual(kodliwe.demangle(LEGACY, limit=limit, fold=fold), "foo")
+                self.assertEqual(kodliwe.try_demangle("_RNvC3foo3bar", limit=limit, fold=fold), "foo::bar")
+                self.assertEqual(kodliwe.demangle_text("a %s\n" % LEGACY, limit=limit, fold=fold), "a foo\n")
+                path = kodliwe.demangle_text(TREE, limit=limit, fold=fold)
+                self.assertTrue(path.endswith("{size limit reached}"))
+                self.assertLessEqual(len(path), 1_000_020)
+
     def test_a_long_path_is_whole(self):
         path = kodliwe.demangle(TREE, limit=10**30)
         self.assertEqual(len(path), 1_000_019)
@@ -159,8 +177,21 @@ class DemangleText(unittest.TestCase):
         self.assertEqual(kodliwe.demangle_text("\udcff\ud800_ZN3fooEä"), "\udcff\ud800fooä")
 
     def test_the_characters_before_a_symbol(self):
-        self.assertEqual(kodliwe.demangle_text("v1.0_RC0 SW_RC0.zip .text._ZN3fooE"), "v1.0_RC0 SW_RC0.zip .text.foo")
-        self.assertEqual(kodliwe.demangle_text("__ZN3fooE a__RC1a __Rest"), "foo a_a __Rest")
+        self.assertEqual(kodliwe.demangle_text("v1.0_RC0 SW_RC0.zip _RC0 __RC0 .text._ZN3fooE"), "v1.0_RC0 SW_RC0.zip _RC0 __RC0 .text.foo")
+        self.assertEqual(kodliwe.demangle_text("__ZN3fooE a__ZN1aE __Rest a\\n_ZN1aE"), "foo a_a __Rest a\\na")
+        pairs = [
+            ("int _RC0 = 1; _RC2_40 config_Release __REG", "int _RC0 = 1; _RC2_40 config_Release __REG"),
+            ('{"at":"a\\n_RNvC3foo3bar\\t_ZN3fooE\\r\\n_ZN3fooE"}', '{"at":"a\\nfoo::bar\\tfoo\\r\\nfoo"}'),
+            ("\x1b[01;31m\x1b[K_RNvC3foo3bar\x1b[m\x1b[K", "\x1b[01;31m\x1b[Kfoo::bar\x1b[m\x1b[K"),
+            ('write(1, "x\\n_RNvC3foo3bar\\t_ZN3foo"..., 40) = 40', 'write(1, "x\\nfoo::bar\\t_ZN3foo"..., 40) = 40'),
+            (repr(b"\0_RNvC3foo3bar\xff_ZN3fooE"), "b'\\x00foo::bar\\xfffoo'"),
+            ("%20_RNvC3foo3bar L_ZN3fooE .L_RNvC3foo3bar", "%20foo::bar Lfoo .Lfoo::bar"),
+            ("_RMC3foox a_RXC0uC1t _RYsC5h05af __RMC3foox", "<i64> a<() as t> <i16 as h05af> <i64>"),
+        ]
+        for text, wanted in pairs:
+            for fold in (False, True):
+                self.assertEqual(kodliwe.demangle_text(text, fold=fold), wanted)
+                self.assertEqual(kodliwe.demangle_text(text.encode(), fold=fold), wanted.encode())
 
     def test_a_limit_is_each_symbols(self):
         self.assertEqual(kodliwe.demangle_text("_ZN3foo3barE _ZN1aE", limit=4), "foo{size limit reached} a")
@@ -177,10 +208,19 @@ class DemangleText(unittest.TestCase):
         self.assertEqual(kodliwe.demangle_text("x _RNvC3foo3bar\n" * count), "x foo::bar\n" * count)
 
     def test_the_end_of_a_piece_changes_nothing(self):
-        pairs = [(" _RNvC3foo3bar", " foo::bar"), ("a_RC1a __RC1a", "a_RC1a a"), ("\xff__ZN3fooE\xfe", "\xfffoo\xfe"), ("._RC1a", ".a")]
+        pairs = [
+            (" _RNvC3foo3bar", " foo::bar"),
+            ("a_RC1a __ZN1aE", "a_RC1a a"),
+            ("a_ZN1aE", "aa"),
+            ("\\n_RNvC3foo3bar", "\\nfoo::bar"),
+            ("\x1b[31m_RNvC3foo3bar", "\x1b[31mfoo::bar"),
+            ("_RC2_40 ", "_RC2_40 "),
+            ("\xff__ZN3fooE\xfe", "\xfffoo\xfe"),
+            ("._ZN1aE", ".a"),
+        ]
         for symbol, path in pairs:
             for at in range(kodliwe._PIECE - 20, kodliwe._PIECE + 3):
-                start, end = "-" * at, "-_RC1b" * 10
+                start, end = "-" * at, "-_ZN1bE" * 10
                 given, wanted = (text.encode("latin-1") for text in (start + symbol + end, start + path + "-b" * 10))
                 self.assertEqual(kodliwe.demangle_text(given), wanted, (symbol, at))
 
@@ -235,6 +275,51 @@ class Calls(unittest.TestCase):
             signal.signal(signal.SIGALRM, old)
         self.assertEqual(wrong, [])
         self.assertTrue(seen and set(seen) == {"other::bar"})
+
+    def in_a_thread(self, call):
+        """Returns what a call returns in a thread of its own, which has no buffer yet."""
+        found = []
+        thread = threading.Thread(target=lambda: found.append(call()))
+        thread.start()
+        thread.join()
+        return found[0]
+
+    def test_a_buffer_is_used_again(self):
+        def buffers():
+            found, new = [], kodliwe._buffer
+            with unittest.mock.patch.object(kodliwe, "_buffer", lambda size: found.append(size) or new(size)):
+                for _ in range(3):
+                    self.assertEqual(kodliwe.demangle(LEGACY), "foo")
+                    self.assertEqual(kodliwe.demangle_text("a _RNvC3foo3bar\n"), "a foo::bar\n")
+                    self.assertIsNone(kodliwe.try_demangle("main"))
+            return found
+
+        self.assertEqual(self.in_a_thread(buffers), [kodliwe._KEPT])
+
+    def test_a_larger_buffer_is_not_kept(self):
+        def kept():
+            text = b"x" * (kodliwe._KEPT + 1)
+            self.assertEqual(kodliwe.demangle(LEGACY), "foo")
+            first = list(kodliwe._rooms.free)
+            self.assertEqual(kodliwe.demangle(text), text)
+            return [(len(buffer), buffer in first) for buffer in kodliwe._rooms.free]
+
+        self.assertEqual(self.in_a_thread(kept), [(kodliwe._KEPT, True)])
+
+    def test_a_call_within_a_call_has_a_buffer_of_its_own(self):
+        calls = kodliwe._calls()
+
+        def call(*arguments):
+            size = calls.demangle(*arguments)
+            with unittest.mock.patch.object(kodliwe, "_calls", lambda: calls):
+                self.assertEqual(kodliwe.demangle("_RNvC5other3bar"), "other::bar")
+            return size
+
+        def paths():
+            with unittest.mock.patch.object(kodliwe, "_calls", lambda: calls._replace(demangle=call)):
+                return [kodliwe.demangle(LEGACY) for _ in range(3)] + list(map(len, kodliwe._rooms.free))
+
+        self.assertEqual(self.in_a_thread(paths), ["foo"] * 3 + [kodliwe._KEPT] * 2)
 
     def test_the_examples(self):
         self.assertEqual(doctest.testmod(kodliwe).failed, 0)
