@@ -1,15 +1,18 @@
 /* A program that prints its own backtrace when it fails, with the paths of Rust functions in place of their symbols.
  *
- *     gcc -O1 -g -rdynamic -I include examples/backtrace.c crates/demangle_c/out/libdemangle_c.a -o out/backtrace && out/backtrace
+ *     gcc -O1 -g -rdynamic -I include examples/backtrace.c out/none/build/libkodliwe.a -o out/backtrace && out/backtrace
+ *
+ * `make KIT=none` builds this archive. `make` builds the proved one, out/build/libkodliwe.a.
  *
  * The handler of SIGSEGV runs on a separate stack. Its calls into the library allocate nothing and take no lock, and it
  * passes a limit, so that it gets no more bytes of a path than it has room for. Three functions of C have the symbols that
  * rustc gives to Rust functions, so this example needs no Rust compiler. A program that links Rust code has such symbols.
  *
  * That stack has 16 KiB. This is enough for every symbol except those that are made to be deep: the handler was seen to
- * touch 8.9 KB of it, even with the real symbols that need most. A symbol that is made to be deep needs up to 78 KB, and
- * may be short (`_RNvB_1a`, of 8 bytes, needs 14.5). 96 KiB before the stack cannot be touched. So such a symbol ends the
- * program and overwrites nothing. A program that prints a stranger's symbols needs a stack of 96 KiB. */
+ * touch 9.4 KB of it, even with the real symbols that need most. A symbol that is made to be deep may be short: with
+ * `_RNvB_1a`, of 8 bytes, it touches 16.0 KB. For others, a call into the library touches up to 81 KB by itself. 96 KiB
+ * before the stack cannot be touched. So such a symbol may end the program, and overwrites nothing. A program that prints a
+ * stranger's symbols needs a stack of 96 KiB. */
 #ifndef _GNU_SOURCE
 #define _GNU_SOURCE
 #endif

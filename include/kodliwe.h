@@ -22,9 +22,10 @@
  *   - A size is at most PTRDIFF_MAX, as for every object in C.
  *
  *   - The stack has room. 8 KiB suffice for every symbol that a compiler made: of 1,400 real ones, none made a call touch
- *     more than 5.4 KB. For a v0 symbol made to be deep, a call touches 13.8 KB. Such a symbol can be short: _RNvB_1a has
- *     8 bytes. For one that leaves over 512 productions open at once, a call touches up to 81 KB. If symbols come from
- *     strangers, provide 96 KiB. The same holds for a handler with its own stack (sigaltstack; examples/backtrace.c).
+ *     more than 5.6 KB, also as the first call of a process. A v0 symbol that is made to be deep can be short: for _RNvB_1a,
+ *     of 8 bytes, a first call touches 13.7 KB. For one that leaves over 512 productions open at once, a call touches up to
+ *     81 KB. If symbols come from strangers, provide 96 KiB. The same holds for a handler with its own stack (sigaltstack;
+ *     examples/backtrace.c).
  *
  *   - Time grows with the limit, if one is given, and not with out_size. If symbols may be hostile or time matters, as in a handler, call
  *     kodliwe_demangle_limited with out_size as the limit.
@@ -114,7 +115,7 @@ KODLIWE_API size_t kodliwe_demangle_folded(const char *symbol, size_t symbol_len
  * unchanged.
  *
  * A candidate symbol starts at _ZN or _R. It ends before the next byte that is not an ASCII letter, a digit, $, . or _.
- * After a letter or a digit it stays, as in SW_RC0.zip. A single _ before a symbol, as macOS has it, is replaced with it, if
+ * It stays if it begins with _RC, as in SW_RC0.zip. A single _ before a symbol, as macOS has it, is replaced with it, if
  * the _ is the first byte or follows one that no symbol may have.
  *
  * Each path is cut after at most limit bytes, as by kodliwe_demangle_limited. With KODLIWE_NO_LIMIT, the path of a symbol
