@@ -1,5 +1,5 @@
 #!/usr/bin/env python3
-"""Measures what the gate takes, crate by crate: bench/gate.py rt ci, or another command that runs rt.
+"""Measures what the gate takes, crate by crate: bench/gate.py env ONLY=gate,edits tests/run, or another command that runs the prover.
 
 usage: gate.py [--pid PID] [COMMAND..]
 
@@ -51,7 +51,7 @@ def task_of(pid):
     if "--test" in words:
         return crate, "tests"
     try:
-        return crate, "edits" if "/rt-edit" in os.readlink("/proc/%d/cwd" % pid) else "proof"
+        return crate, "edits" if re.search(r"/(?:edits|rt-edit)[^/]*-\w+/", os.readlink("/proc/%d/cwd" % pid) + "/") else "proof"
     except OSError:
         return None
 

@@ -109,7 +109,7 @@ def copy_library(folder, program, edits=()):
     names = library_crates()
     for name in names:
         place = os.path.join("crates", name)
-        shutil.copytree(os.path.join(ROOT, place), os.path.join(folder, place), ignore=shutil.ignore_patterns("must-fail"))
+        shutil.copytree(os.path.join(ROOT, place), os.path.join(folder, place), ignore=shutil.ignore_patterns("edits"))
     for end, old, new in edits:
         edit(os.path.join(folder, "crates"), end, old, new)
     with open(os.path.join(folder, "crates.txt"), "w") as file:

@@ -1,194 +1,191 @@
 #!/usr/bin/env python3
-"""Checks which clause refuses each edit of the code, from what the gate says.
+"""Tries the edits of the code, each a mistake that the prover has to refuse in the clause that the edit names.
 
-    rt ci > gate.txt; tests/edits.py gate.txt          (or rt must-fail CRATE > gate.txt)
-    tests/edits.py                                     (only reads the edits, and lists those that can't be right)
+usage: edits.py                               only reads the edits, and lists those that can't be right
+       edits.py --try [--gate FILE] [CRATE..] tries those of all crates, or of some
 
-The gate tries every edit, crates/NAME/must-fail/*.edit.
+An edit is a file crates/NAME/edits/*.edit (tests/README.md). Without --try it fails if it has no line `clause:` or more than one, if its
+crate has no such function, if no contract of the repository has such a clause, or if an `old:` text is not in its file exactly once.
 
-A line `clause: FUNCTION CLAUSE` of an edit names the function that the prover refuses first, and its clause: `ensures` if that
-has no name or is the function's only one, `loop` if it is the invariant of a loop, `invariant` if it is that of a type
-whose value is made there, `call` if it is what a called function requires. The gate cuts what it says; if the clause is
-cut off, the function alone is compared. With --write an edit that has no such line is given what the gate said of it, to be
-judged by a reader. An edit that the gate did not try is a failure, and so is one that has no such line.
+With --try each edit has one of these ends, and all but the first are failures, of which a line is printed:
 
-Without a file of the gate, an edit fails if it has no line `clause:` or more than one, if its crate has no such function, if no
-contract of the repository has such a clause, or if an `old:` text is not in its file exactly once.
-The last line is 'N passed, N failed'.
+  refused       the function is not proved, and the first goal that fails in it is of the clause
+  refused by    another function or clause refuses it first
+  NOT REFUSED   the crate is still proved with it
+  BAD EDIT      it can't be applied, or what it makes can't be read or compiled
+  NOT TRIED     the gate did not prove the crate, or the prover ended early
+
+Several edits are tried in one run of the prover (tests/edits_trial.py says how, and why that shows the same). It reads the libraries of
+crates/*/out/rlib that `rt ci` proved in this checkout. `make` makes them too. With --gate the edits of a crate begin when FILE, which
+`rt ci` is writing, says that the crate is proved. With --alone each edit is tried by itself, over its whole crate, which takes three times
+as long. --sample tries so many by themselves, chosen at random, and compares. The last line is 'N passed, N failed'.
 """
-import argparse, glob, os, re, sys
+import argparse
+import os
+import random
+import re
+import sys
+import tempfile
+import threading
+import time
+from concurrent import futures
 
 from common import ROOT
+from edits_file import BadEdit, Edit, names_in
+from edits_prover import Crates
+from edits_source import Source, read
+from edits_trial import Trial
 
-CRATES = os.path.join(ROOT, "crates")
-# The folder of a crate that has its edits.
-FOLDER = "must-fail"
-SAID = re.compile(r"must-fail (\w+)/([\w.-]+)\.edit: (.*)")
-REFUSED = re.compile(r"refused, as it must be(?:: (.*))?$")
-IN_PROOF = re.compile(r"(?:\./)?proofs/(?:.*/)?([\w-]+)/\w+\.antt:\d+:\d+: \w+: `([^`]*)(`?)")
-IN_SOURCE = re.compile(r"(?:note: )?(?:\./)?(src/\S+?):(\d+):\d+: (.*)")
-
-
-def read(*place):
-    """Returns the text of a file."""
-    with open(os.path.join(*place), encoding="utf-8") as file:
-        return file.read()
-
-
-def edits(names):
-    """Yields the crate, the name and the lines of each edit of these crates, or of all."""
-    for crate in sorted(os.listdir(CRATES)):
-        folder = os.path.join(CRATES, crate, FOLDER)
-        if os.path.isdir(folder) and (not names or crate in names):
-            for name in sorted(os.listdir(folder)):
-                if name.endswith(".edit"):
-                    yield crate, name[: -len(".edit")], read(folder, name).splitlines()
+CLAUSES = re.compile(r"^ *(?:ensures|requires|invariant|ghost) (\w+) (?:\{|=|:)", re.M)
+# Clauses without a name: tests/README.md says of what.
+UNNAMED = ("ensures", "loop", "invariant", "call")
+# What `rt ci` says of a crate, and its last line; tests/run writes ENDED after it.
+PROVED, OTHER = re.compile(r"rt: (\w+)(?: proved| is kept: .*)"), re.compile(r"rt: (\w+) NOT PROVED.*")
+ENDED = "the gate ended"
+# The memory that has to be free before a run of the prover begins, in KB. The largest one takes 4 GB.
+FREE = 5 << 20
 
 
-def changed(crate, lines):
-    """Returns the texts of the files that an edit changes, and what is wrong with its `old:` texts, or None."""
-    texts, path, old, wrong = {}, None, None, "it has no lines `file:`, `old:` and `new:`"
-    for line in lines:
-        if line.startswith("file: "):
-            path = line[len("file: ") :].strip()
-            if not os.path.isfile(os.path.join(CRATES, crate, path)):
-                return texts, "there is no file %s" % path
-            texts.setdefault(path, read(CRATES, crate, path))
-        elif line.startswith("old: "):
-            old = line[len("old: ") :]
-        elif line.startswith("new:") and path and old:
-            count = texts[path].count(old)
-            if count != 1:
-                return texts, "an `old:` text is in %s %d times, and not once" % (path, count)
-            texts[path] = texts[path].replace(old, re.sub(r"^ ", "", line[len("new:") :]))
-            wrong = None
-    return texts, wrong
+def wrong_clause(source, edit, clauses):
+    """Returns what is wrong with the function and the clause that an edit names, or None."""
+    function, clause = edit.clause
+    if not edit.named:
+        return "the crate has no function `%s`" % function
+    return None if clause in clauses else "no contract has a clause `%s`" % clause
 
 
-def function_at(lines, number):
-    """Returns the function that is around a line, or begins in it."""
-    for line in reversed(lines[: number + 2]):
-        found = re.search(r"\bfn (\w+)", line)
-        if found and lines.index(line) < number + 2:
-            return found[1]
-    return None
+def check_texts(crates):
+    """Yields each edit, as CRATE/NAME, and what is wrong with its text, or None."""
+    sources = {name: Source(crates.folder(name), crates.library(name)) for name in crates.uses}
+    clauses = {*UNNAMED}.union(*(CLAUSES.findall(text) for source in sources.values() for text in source.texts.values()))
+    for crate, source in sources.items():
+        for name in names_in(source.folder):
+            try:
+                wrong = wrong_clause(source, Edit(source, name), clauses)
+            except BadEdit as error:
+                wrong = str(error)
+            yield "%s/%s" % (crate, name), wrong
 
 
-def clause_of(goal):
-    """Returns the clause that a goal is of."""
-    named = re.search(r"clause-([\w-]+?)(?:-\d+)?$", goal)
-    if named:
-        return named[1]
-    if goal.startswith("invariant_of"):
-        return "invariant"
-    if goal.startswith(("loop", "invariant", "decreases")):
-        return "loop"
-    return "ensures" if goal.startswith("returns") else "call"
+class Gate:
+    """Knows which crates are proved: from what `rt ci` is writing, or by the libraries that are there."""
+
+    def __init__(self, path):
+        self.path = path
+
+    def proves(self, crate):
+        """Waits until the gate has judged a crate, and returns whether it is proved."""
+        while self.path and os.path.exists(self.path):
+            lines = read(self.path).splitlines()
+            if any((found := PROVED.fullmatch(line)) and found[1] == crate for line in lines):
+                return True
+            if ENDED in lines or any((found := OTHER.fullmatch(line)) and found[1] == crate for line in lines):
+                return False
+            time.sleep(5)
+        return True
 
 
-def refused_by(crate, lines, said):
-    """Returns the function and the clause that the gate names. The clause is None if it is cut off."""
-    proof = IN_PROOF.match(said)
-    if proof:
-        return proof[1], clause_of(proof[2]) if proof[3] else None
-    source = IN_SOURCE.match(said)
-    if not source:
-        return None
-    goal = re.search(r"\(`([^`]*)`\)", source[3])
-    text = changed(crate, lines)[0].get(source[1]) or read(CRATES, crate, source[1])
-    return function_at(text.splitlines(), int(source[2])), clause_of(goal[1]) if goal else None
+def wait_for_memory():
+    """Waits until there is memory for a run of the prover, at most some minutes."""
+    for _ in range(60):
+        free = int(re.search(r"^MemAvailable: +(\d+) kB$", read("/proc/meminfo"), re.M)[1])
+        if free >= FREE:
+            return
+        time.sleep(5)
 
 
-def clauses(lines):
-    """Returns the function and the clause of each line `clause:`."""
-    return [line[len("clause: ") :].split() for line in lines if line.startswith("clause: ")]
+class Tries:
+    """Tries the edits of crates side by side, so many runs of the prover at once, and counts what passed and failed."""
+
+    def __init__(self, options, room):
+        self.options, self.room, self.gate = options, room, Gate(options.gate)
+        self.crates = Crates(os.path.join(room, "libraries"))
+        self.turn, self.printing = threading.Semaphore(options.jobs), threading.Lock()
+        self.passed = self.failed = 0
+
+    def tell(self, text):
+        with self.printing:
+            print(text, flush=True)
+
+    def run(self, call, edits):
+        """Tries edits when it is their turn."""
+        with self.turn:
+            wait_for_memory()
+            call(edits)
+
+    def try_crate(self, name):
+        """Tries the edits of a crate once it is proved: first those of one run, whose lemmas serve the others."""
+        names = names_in(self.crates.folder(name))
+        if not self.gate.proves(name):
+            return self.count(name, dict.fromkeys(names, "NOT TRIED: the gate did not prove the crate"))
+        lacking = self.crates.take(name)
+        if lacking:
+            return self.count(name, dict.fromkeys(names, "NOT TRIED: no library %s: `rt ci` or `make` makes it" % lacking[0]))
+        trial = Trial(self.crates, name, self.room, self.tell)
+        runs = trial.runs(self.options.alone)
+        for call, edits in runs[:1]:
+            self.run(call, edits)
+        trial.begun = True
+        with futures.ThreadPoolExecutor(self.options.jobs) as pool:
+            list(pool.map(lambda run: self.run(*run), runs[1:]))
+            list(pool.map(lambda edit: self.compare(trial, edit), self.sample(trial)))
+        self.tell("%s: %d edits in %d runs, %.0f seconds of processor" % (name, len(names), len(runs), trial.seconds))
+        self.count(name, {edit: trial.verdicts.get(edit, "NOT TRIED") for edit in names})
+
+    def sample(self, trial):
+        """Returns edits of a crate, chosen at random, its part of those that --sample asks for."""
+        every = sum(len(names_in(self.crates.folder(name))) for name in self.crates.uses)
+        return [edit for edit in trial.edits if random.random() * every < self.options.sample]
+
+    def compare(self, trial, edit):
+        """Tries an edit by itself, and fails if that ends in another way than a run with others."""
+        before = trial.verdicts.get(edit.name)
+        self.run(trial.alone, [edit])
+        after = trial.verdicts[edit.name]
+        if bool(before) != bool(after):
+            trial.verdicts[edit.name] = "with others: %s; alone: %s" % (before or "refused", after or "refused")
+
+    def count(self, crate, verdicts):
+        """Counts the verdicts on a crate's edits, and prints those that are failures."""
+        for name, wrong in verdicts.items():
+            if wrong:
+                self.tell("%s/%s: %s" % (crate, name, wrong[:400]))
+        with self.printing:
+            self.failed += sum(map(bool, verdicts.values()))
+            self.passed += sum(not wrong for wrong in verdicts.values())
 
 
-def sources(crate="*"):
-    """Returns the text of all Rattle sources of a crate, or of every crate."""
-    places = glob.glob(os.path.join(CRATES, crate, "src", "**", "*.rt"), recursive=True)
-    return "\n".join(read(place) for place in sorted(places))
-
-
-class Names:
-    """Knows the functions and the clauses of the sources."""
-
-    def __init__(self):
-        self.texts = {}
-        clause = r"^ *(?:ensures|requires|invariant|ghost) (\w+) (?:\{|=|:)"
-        self.clauses = {"ensures", "loop", "invariant", "call", *re.findall(clause, sources(), re.M)}
-
-    def has_function(self, crate, lines, function):
-        """Returns whether a crate has a function of this name, or gets one by an edit's lines."""
-        if crate not in self.texts:
-            self.texts[crate] = sources(crate)
-        texts = [self.texts[crate], *changed(crate, lines)[0].values()]
-        return any(re.search(r"\bfn %s\b" % re.escape(function), text) for text in texts)
-
-    def wrong(self, crate, lines):
-        """Returns what is wrong with an edit by itself, or None."""
-        if [len(words) for words in clauses(lines)] != [2]:
-            return "it has no line `clause: FUNCTION CLAUSE`, or more than one"
-        function, clause = clauses(lines)[0]
-        if not self.has_function(crate, lines, function):
-            return "the crate has no function `%s`" % function
-        if clause not in self.clauses:
-            return "no contract has a clause `%s`" % clause
-        return changed(crate, lines)[1]
-
-
-def check(crate, name, lines, said, write=False):
-    """Returns what is wrong with how the gate refused an edit, or None."""
-    refused = REFUSED.match(said)
-    if not refused or not refused[1] or refused[1].startswith("(only"):
-        return said
-    found = refused_by(crate, lines, refused[1])
-    if not found or not found[0]:
-        return "no function in: " + refused[1]
-    wanted = clauses(lines)
-    if not wanted:
-        if write and found[1]:
-            with open(os.path.join(CRATES, crate, FOLDER, name + ".edit"), "a", encoding="utf-8") as file:
-                file.write("clause: %s %s\n" % found)
-        return "it has no line `clause: %s %s`" % (found[0], found[1] or "(cut off)")
-    if wanted[0][0] != found[0] or found[1] and wanted[0][1:] != [found[1]]:
-        return "refused by %s %s, and not by %s" % (found[0], found[1] or "", " ".join(wanted[0]))
-    return None
-
-
-def said_of(lines):
-    """Returns what lines of the gate, or of rt must-fail, say of each edit, by its crate and name."""
-    return {(found[1], found[2]): found[3] for found in map(SAID.search, lines) if found}
-
-
-def wrongs(options):
-    """Yields the crate and the name of each edit that is looked at, and what is wrong with it, or None."""
-    if options.gate:
-        with open(options.gate, encoding="utf-8", errors="replace") as file:
-            said = said_of(file)
-        for crate, name, lines in edits(options.crate):
-            yield crate, name, check(crate, name, lines, said.get((crate, name), "the gate did not try it"), options.write)
-    else:
-        names = Names()
-        for crate, name, lines in edits(options.crate):
-            yield crate, name, names.wrong(crate, lines)
+def try_all(options):
+    """Tries the edits of the crates that are named, or of all, and returns how many passed and failed."""
+    with tempfile.TemporaryDirectory(prefix="edits-") as room:
+        tries = Tries(options, room)
+        names = [name for name in tries.crates.uses if names_in(tries.crates.folder(name)) and (not options.crate or name in options.crate)]
+        # Those with most edits are asked for first.
+        names.sort(key=lambda name: -len(names_in(tries.crates.folder(name))))
+        with futures.ThreadPoolExecutor(len(names) or 1) as pool:
+            list(pool.map(tries.try_crate, names))
+        return tries.passed, tries.failed
 
 
 def main():
     parser = argparse.ArgumentParser(description=__doc__, formatter_class=argparse.RawDescriptionHelpFormatter)
-    parser.add_argument("gate", nargs="?", help="what the gate said, or rt must-fail; without it only the lines are looked at")
-    parser.add_argument("--crate", action="append", help="only the edits of this crate")
-    parser.add_argument("--write", action="store_true", help="write the missing lines `clause:`")
+    parser.add_argument("crate", nargs="*", help="the crates whose edits are tried")
+    parser.add_argument("--try", action="store_true", dest="is_try", help="try the edits")
+    parser.add_argument("--gate", help="what `rt ci` is writing: wait until it has proved a crate")
+    parser.add_argument("--jobs", type=int, default=max(1, len(os.sched_getaffinity(0)) // 2), help="how many runs of the prover at once")
+    parser.add_argument("--alone", action="store_true", help="try every edit by itself")
+    parser.add_argument("--sample", type=int, default=0, help="try about so many edits by themselves too")
     options = parser.parse_args()
-    if options.gate and not os.path.exists(options.gate):
-        print("no %s: `rt ci` or `rt must-fail` writes it" % options.gate)
-        print("0 passed, 1 failed")
-        return 1
-    passed = failed = 0
-    for crate, name, wrong in wrongs(options):
-        if wrong:
-            print("%s/%s: %s" % (crate, name, wrong))
-        passed, failed = passed + (not wrong), failed + bool(wrong)
+    os.chdir(ROOT)
+    if options.is_try:
+        passed, failed = try_all(options)
+    else:
+        found = list(check_texts(Crates()))
+        for name, wrong in found:
+            if wrong:
+                print("%s: %s" % (name, wrong))
+        failed = sum(bool(wrong) for _, wrong in found)
+        passed = len(found) - failed
     print("%d passed, %d failed" % (passed, failed))
     return 1 if failed or not passed else 0
 

@@ -85,7 +85,7 @@ def copy_of_source(folder, edits=()):
     os.makedirs(folder)
     for name in ("crates.txt", *[name for name in os.listdir(ROOT) if name.startswith("LICENSE")]):
         shutil.copy(os.path.join(ROOT, name), folder)
-    ignored = shutil.ignore_patterns("out", "proofs", "specs", "must-fail", "edits", "stdin", "data")
+    ignored = shutil.ignore_patterns("out", "proofs", "specs", "edits", "stdin", "data")
     shutil.copytree(os.path.join(ROOT, "crates"), os.path.join(folder, "crates"), ignore=ignored)
     shutil.copytree(os.path.join(ROOT, "packaging", "crate"), os.path.join(folder, "packaging", "crate"))
     for file, old, new in edits:
