@@ -211,6 +211,9 @@ impl Fuel {
     fn enter_reference(&mut self, target: usize, next: usize)
         requires back { target ≤ next }
         ensures paid { 0 < self.new.left → all_of self.new + (next - target) ≤ all_of self.old }
+        ensures read { 0 < self.new.left → self.old.is_inside ≡ true →
+            next ≤ self.old.unpaid + 2 * (self.old.left - self.new.left) + 1 }
+        ensures within { 0 < self.new.left → self.old.is_inside ≡ true → next < self.old.outer }
     {
         if !self.is_inside {
             return self.enter_first(target, next);
@@ -249,6 +252,10 @@ impl Fuel {
     fn leave_reference(&mut self, end: Option<usize>, next: usize, len: usize)
         ensures paid { 0 < self.new.left → all_of self.new + left_at len (Some next) ≤ all_of self.old + left_at
             len end }
+        ensures read { 0 < self.new.left → self.old.is_inside ≡ true → self.new.is_inside ≡ true →
+            IfSome end (λ i. i ≤ self.old.unpaid + 2 * (self.old.left - self.new.left) + 1) }
+        ensures ended { 0 < self.new.left → self.old.is_inside ≡ true → self.new.is_inside ≡ false →
+            IfSome end (λ i. i ≤ self.old.unpaid + 2 * (self.old.left - self.new.reserve) + 1) }
     {
         let Some(end) = end else {
             self.left = 0;
