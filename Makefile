@@ -4,6 +4,8 @@
 #   make                             proves and builds into out/build with the Rattle kit, and runs the program once
 #   make test                        runs every test; ONLY=web,c runs some suites (tests/run says which there are)
 #   make quick                       a first verdict on a change, within minutes (tests/quick.py); BASE=COMMIT names what it is compared with
+#   make edits                       tries the must-fail edits over the libraries that `make` proved; CRATE=NAME those of one crate, and
+#                                    ALONE=1 each by itself, as before a release (tests/edits.py)
 #   make install PREFIX= DESTDIR=    PREFIX is /usr/local if it is not given
 #   make uninstall PREFIX= DESTDIR=
 #   make dist                        out/dist: a tarball of the installed tree, a Debian package and the packages of cargo,
@@ -97,7 +99,7 @@ CRATES := kodliwe-$(VERSION).crate kodliwe-cli-$(VERSION).crate rustc-demangle-0
 # The functions of the headers.
 CALLS := $(shell sed -n 's/^KODLIWE_API [a-z_]* \([a-z_]*\).*/\1/p' include/kodliwe.h) rustc_demangle
 
-.PHONY: all libraries install uninstall dist crate crates test quick bench clean
+.PHONY: all libraries install uninstall dist crate crates test quick edits bench clean
 .DELETE_ON_ERROR:
 # The kit proves one crate at a time.
 .NOTPARALLEL:
@@ -245,6 +247,9 @@ test:
 
 quick:
 	tests/quick.py $(addprefix --base ,$(BASE))
+
+edits:
+	tests/edits.py --try $(if $(ALONE),--alone) $(CRATE)
 
 bench:
 	bench/write.py

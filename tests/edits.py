@@ -18,11 +18,13 @@ With --try each edit has one of these ends, and all but the first are failures, 
 Several edits are tried in one run of the prover (tests/edits_trial.py says how, and why that shows the same). It reads the libraries of
 crates/*/out/rlib that `rt ci` proved in this checkout. `make` makes them too. With --gate the edits of a crate begin when FILE, which
 `rt ci` is writing, says that the crate is proved. With --alone each edit is tried by itself, over its whole crate, which takes three times
-as long. --sample tries so many by themselves, chosen at random, and compares. The last line is 'N passed, N failed'.
+as long. With --sample 5, so many of a hundred are tried both ways, and fail if the ends differ. Which they are is drawn by the hash of the
+commit, so each commit draws others. With --since COMMIT only those are tried that were changed since, or whose functions were. A line of a
+failure begins with `FAILED`. The last line is 'N passed, N failed'.
 """
 import argparse
+import hashlib
 import os
-import random
 import re
 import sys
 import tempfile
@@ -30,9 +32,10 @@ import threading
 import time
 from concurrent import futures
 
-from common import ROOT
+from common import ROOT, run
 from edits_file import BadEdit, Edit, names_in
 from edits_prover import Crates
+from edits_since import edits_since
 from edits_source import Source, read
 from edits_trial import Trial
 
@@ -46,12 +49,15 @@ ENDED = "the gate ended"
 FREE = 5 << 20
 
 
-def wrong_clause(source, edit, clauses):
-    """Returns what is wrong with the function and the clause that an edit names, or None."""
+def wrong_names(edit, clauses):
+    """Returns what is wrong with the function and the clause that an edit names, or with what it takes away, or None."""
     function, clause = edit.clause
     if not edit.named:
         return "the crate has no function `%s`" % function
-    return None if clause in clauses else "no contract has a clause `%s`" % clause
+    if clause not in clauses:
+        return "no contract has a clause `%s`" % clause
+    lost = edit.lost_calls()
+    return "it takes away the call of `%s`, which a proof of its function names" % lost[0] if lost else None
 
 
 def check_texts(crates):
@@ -61,7 +67,7 @@ def check_texts(crates):
     for crate, source in sources.items():
         for name in names_in(source.folder):
             try:
-                wrong = wrong_clause(source, Edit(source, name), clauses)
+                wrong = wrong_names(Edit(source, name), clauses)
             except BadEdit as error:
                 wrong = str(error)
             yield "%s/%s" % (crate, name), wrong
@@ -85,6 +91,11 @@ class Gate:
         return True
 
 
+def drawn(commit, crate, edit):
+    """Returns the number of an edit from 0 to 99, which is another one for another commit."""
+    return int(hashlib.sha256(("%s %s/%s" % (commit, crate, edit)).encode()).hexdigest(), 16) % 100
+
+
 def wait_for_memory():
     """Waits until there is memory for a run of the prover, at most some minutes."""
     for _ in range(60):
@@ -101,13 +112,14 @@ class Tries:
         self.options, self.room, self.gate = options, room, Gate(options.gate)
         self.crates = Crates(os.path.join(room, "libraries"))
         self.turn, self.printing = threading.Semaphore(options.jobs), threading.Lock()
+        self.commit = run(["git", "rev-parse", "HEAD"], cwd=ROOT).decode().strip() if options.sample else ""
         self.passed = self.failed = 0
 
     def tell(self, text):
         with self.printing:
             print(text, flush=True)
 
-    def run(self, call, edits):
+    def in_turn(self, call, edits):
         """Tries edits when it is their turn."""
         with self.turn:
             wait_for_memory()
@@ -122,25 +134,27 @@ class Tries:
         if lacking:
             return self.count(name, dict.fromkeys(names, "NOT TRIED: no library %s: `rt ci` or `make` makes it" % lacking[0]))
         trial = Trial(self.crates, name, self.room, self.tell)
+        if self.options.since:
+            trial.edits = edits_since(trial.source, trial.edits, self.options.since)
+            names = [edit.name for edit in trial.edits] + list(trial.verdicts)
         runs = trial.runs(self.options.alone)
         for call, edits in runs[:1]:
-            self.run(call, edits)
+            self.in_turn(call, edits)
         trial.begun = True
         with futures.ThreadPoolExecutor(self.options.jobs) as pool:
-            list(pool.map(lambda run: self.run(*run), runs[1:]))
+            list(pool.map(lambda run: self.in_turn(*run), runs[1:]))
             list(pool.map(lambda edit: self.compare(trial, edit), self.sample(trial)))
         self.tell("%s: %d edits in %d runs, %.0f seconds of processor" % (name, len(names), len(runs), trial.seconds))
         self.count(name, {edit: trial.verdicts.get(edit, "NOT TRIED") for edit in names})
 
     def sample(self, trial):
-        """Returns edits of a crate, chosen at random, its part of those that --sample asks for."""
-        every = sum(len(names_in(self.crates.folder(name))) for name in self.crates.uses)
-        return [edit for edit in trial.edits if random.random() * every < self.options.sample]
+        """Returns the edits of a crate that are drawn to be tried alone too: --sample of a hundred of all edits."""
+        return [edit for edit in trial.edits if drawn(self.commit, trial.name, edit.name) < self.options.sample]
 
     def compare(self, trial, edit):
         """Tries an edit by itself, and fails if that ends in another way than a run with others."""
         before = trial.verdicts.get(edit.name)
-        self.run(trial.alone, [edit])
+        self.in_turn(trial.alone, [edit])
         after = trial.verdicts[edit.name]
         if bool(before) != bool(after):
             trial.verdicts[edit.name] = "with others: %s; alone: %s" % (before or "refused", after or "refused")
@@ -149,7 +163,7 @@ class Tries:
         """Counts the verdicts on a crate's edits, and prints those that are failures."""
         for name, wrong in verdicts.items():
             if wrong:
-                self.tell("%s/%s: %s" % (crate, name, wrong[:400]))
+                self.tell("FAILED %s/%s: %s" % (crate, name, wrong[:400]))
         with self.printing:
             self.failed += sum(map(bool, verdicts.values()))
             self.passed += sum(not wrong for wrong in verdicts.values())
@@ -173,8 +187,9 @@ def main():
     parser.add_argument("--try", action="store_true", dest="is_try", help="try the edits")
     parser.add_argument("--gate", help="what `rt ci` is writing: wait until it has proved a crate")
     parser.add_argument("--jobs", type=int, default=max(1, len(os.sched_getaffinity(0)) // 2), help="how many runs of the prover at once")
+    parser.add_argument("--since", metavar="COMMIT", help="try only those that a change since this commit may concern")
     parser.add_argument("--alone", action="store_true", help="try every edit by itself")
-    parser.add_argument("--sample", type=int, default=0, help="try about so many edits by themselves too")
+    parser.add_argument("--sample", type=int, default=0, metavar="PERCENT", help="try so many of a hundred edits by themselves too")
     options = parser.parse_args()
     os.chdir(ROOT)
     if options.is_try:
@@ -183,11 +198,11 @@ def main():
         found = list(check_texts(Crates()))
         for name, wrong in found:
             if wrong:
-                print("%s: %s" % (name, wrong))
+                print("FAILED %s: BAD EDIT: %s" % (name, wrong))
         failed = sum(bool(wrong) for _, wrong in found)
         passed = len(found) - failed
     print("%d passed, %d failed" % (passed, failed))
-    return 1 if failed or not passed else 0
+    return 1 if failed or not passed and not options.since else 0
 
 
 if __name__ == "__main__":

@@ -9,6 +9,8 @@ from edits_source import read
 FOLDER = "edits"
 # An edit that writes one of these words changes more than what a body does.
 ITEM = re.compile(r"\b(fn|impl|invariant|ghost|const|use)\b")
+# A call in a body, and what a proof names of a goal or of a call.
+CALL, CITED = re.compile(r"\b([a-z_]\w*)(?:::<[^()]*>)?\("), re.compile(r"\b(?:c|goal)\.([\w.-]+)")
 
 
 class BadEdit(Exception):
@@ -105,6 +107,17 @@ class Edit:
             return [function for function in named if function in self.changed] or near or named
         here = [function for path, text in self.texts.items() for function in self.source.functions_in(path, text)]
         return [function for function in here if function.name == self.clause[0]]
+
+    def lost_calls(self):
+        """Returns the calls that the edit takes away and that a proof of its function names. Then a goal may fail for the name alone."""
+        lost = set()
+        for function in self.changed:
+            edited = [other for other in self.source.functions_in(function.path, self.texts[function.path]) if other.full == function.full]
+            kept = {*CALL.findall(edited[0].body_text)} if edited else set()
+            folder, files = self.source.proof_files(function)
+            cited = {word for file in files for found in CITED.findall(read(folder, file)) for word in re.split("[.-]", found)}
+            lost |= ({*CALL.findall(function.body_text)} - kept) & cited
+        return sorted(lost)
 
     def can_be_copied(self):
         """Returns whether a copy of the function can carry the edit. A trait has no place for one, and one that calls itself would call

@@ -12,14 +12,16 @@ It prints a line for each of these, in two lanes that run side by side:
   program    tests/program.py over what cargo built
   check X    rt check of each crate X that changed since the last verdict, the lower crates first
   test X     rt test of it, if it has tests
+  edits X    tests/edits.py: the edits of it that changed since a commit, and those of functions that did
 
 The last verdict is out/verdict. tests/run writes it when the suites `gate` and `edits` pass: a sum of each crate's src/, specs/,
 proofs/ and c/ and of its line of crates.txt. Without that file, and with --base, the crates are compared with a commit. It is
-the last one that the branch main has too, since main has only what the gate passed. --list only prints the crates that changed.
+the last one that the branch main has too, since main has only what the gate passed. Functions and edits are always compared with it.
+--list only prints the crates that changed.
 
-It is no verdict. It takes from out/ what earlier checks proved. It tries no edits and builds no library for C. It does not check the
-crates above those that changed, whose proofs may fail if a contract or a definition is another; it names them. `make test` does it all.
-What each part printed is in out/quick. The last line is 'N passed, N failed'.
+It is no verdict. It takes from out/ what earlier checks proved. It builds no library for C. It does not check the crates above those that
+changed, whose proofs may fail if a contract or a definition is another; it names them. `make test` does it all. What each part
+printed is in out/quick. The last line is 'N passed, N failed'.
 """
 import argparse
 import glob
@@ -158,12 +160,15 @@ class Steps:
                     print("".join("    " + line for line in file.read().splitlines(True)[-25:]), flush=True)
         return is_well
 
-    def prove(self, crates):
-        """Checks these crates, and proves and runs their tests."""
+    def prove(self, crates, commit):
+        """Checks these crates, proves and runs their tests, and tries the edits that changed since a commit or whose functions did."""
         for crate in crates:
             folder = os.path.join(ROOT, "crates", crate)
-            if self.step("check " + crate, ["rt", "check"], folder) and has_tests(crate):
+            is_proved = self.step("check " + crate, ["rt", "check"], folder)
+            if is_proved and has_tests(crate):
                 self.step("test " + crate, ["rt", "test"], folder)
+            if is_proved and glob.glob(os.path.join(folder, "edits", "*.edit")):
+                self.step("edits " + crate, ["tests/edits.py", "--try", "--since", commit, crate])
 
     def build(self):
         """Reads the sources, and tries the Rust crate and its program."""
@@ -192,7 +197,7 @@ def main():
         return 0
     os.makedirs(LOGS, exist_ok=True)
     steps, began = Steps(), time.monotonic()
-    proving = threading.Thread(target=steps.prove, args=[changed])
+    proving = threading.Thread(target=steps.prove, args=[changed, options.base or last_commit()])
     proving.start()
     steps.build()
     proving.join()
