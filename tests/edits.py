@@ -148,8 +148,10 @@ class Tries:
         self.count(name, {edit: trial.verdicts.get(edit, "NOT TRIED") for edit in names})
 
     def sample(self, trial):
-        """Returns the edits of a crate that are drawn to be tried alone too: --sample of a hundred of all edits."""
-        return [edit for edit in trial.edits if drawn(self.commit, trial.name, edit.name) < self.options.sample]
+        """Returns the edits of a crate that are drawn to be tried alone too, --sample of a hundred, without those that were."""
+        return [
+            edit for edit in trial.edits if edit.name not in trial.lone and drawn(self.commit, trial.name, edit.name) < self.options.sample
+        ]
 
     def compare(self, trial, edit):
         """Tries an edit by itself, and fails if that ends in another way than a run with others."""

@@ -45,6 +45,8 @@ class Trial:
         self.crates, self.name, self.room, self.tell = crates, name, os.path.join(room, name), tell
         self.source = Source(crates.folder(name), crates.library(name))
         self.verdicts, self.edits, self.seconds, self.begun = {}, [], 0.0, False
+        # The edits whose verdict is that of a run by themselves.
+        self.lone = set()
         for edit in names_in(self.source.folder):
             try:
                 self.edits.append(Edit(self.source, edit))
@@ -164,6 +166,7 @@ class Trial:
         for edit in edits:
             said = self.checked(edit.texts, [])
             self.verdicts[edit.name] = self.wrong(edit, said)
+            self.lone.add(edit.name)
 
     def wrong(self, edit, said):
         """Returns what is wrong with what the prover said of an edit alone, or None if it is refused as it should be."""
