@@ -1,5 +1,5 @@
 //! Finds the kind of one argument.
-ghost use Rattle.std.specs.Prelude.{◌≡◌, codes, false, nat_eq};
+ghost use Rattle.std.specs.Prelude.{◌≡◌, ◌≢◌, ◌++◌, ℕ, List, codes, false, nat_eq};
 ghost use Rattle.std.specs.Prelude.{None, Some, IfSome, IfNone, IfOk, IfErr};
 ghost use Rattle.std.specs.List.{starts_with};
 ghost use Rattle.kodliwe_program.specs.CommandLine.{IsAlone, HasValue, IsNotOption, IsInvalidShell, shell_name, rejection_of};
@@ -32,6 +32,32 @@ fn option_value<'a>(argument: &'a str, short: &str, long: &str) -> Option<Option
     }
 }
 
+/// Returns the kind of an option that needs a value, which the argument may include. Returns `None`
+/// for `--completions` without its value, and for any other argument.
+fn classify_valued_option(argument: &str) -> Option<Argument<'_>>
+    ensures is { IfSome result (IsArgument argument.now) }
+    ensures shell { IfNone result ((name : List ℕ) → argument.now ≢ codes "--completions=" ++ name) }
+    ensures no_input { IfNone result (IsNotOption (codes "-i") (codes "--input") argument.now) }
+    ensures no_output { IfNone result (IsNotOption (codes "-o") (codes "--output") argument.now) }
+    ensures no_limit { IfNone result (IsNotOption (codes "-l") (codes "--limit") argument.now) }
+    ensures input { argument.now ≡ codes "--input" →
+        result ≡ Some (Argument.Valued ValuedOption.Input None) }
+{
+    if let Some(name) = argument.strip_prefix("--completions=") {
+        return Some(Argument::CompletionsOf(name));
+    }
+    if let Some(value) = option_value(argument, "-i", "--input") {
+        return Some(Argument::Valued(ValuedOption::Input, value));
+    }
+    if let Some(value) = option_value(argument, "-o", "--output") {
+        return Some(Argument::Valued(ValuedOption::Output, value));
+    }
+    match option_value(argument, "-l", "--limit") {
+        Some(value) => Some(Argument::Valued(ValuedOption::Limit, value)),
+        None => None,
+    }
+}
+
 /// Returns the kind of an argument before `--`.
 pub(super) fn classify(argument: &str) -> Argument<'_>
     ensures is { IsArgument argument.now result }
@@ -51,43 +77,20 @@ pub(super) fn classify(argument: &str) -> Argument<'_>
     if !argument.starts_with("-") {
         return Argument::Symbol;
     }
-    if argument == "-" {
-        return Argument::Stdin;
+    match argument {
+        "-" => Argument::Stdin,
+        "--" => Argument::End,
+        "--hash" => Argument::Hash,
+        "-f" | "--fold" => Argument::Fold,
+        "-h" | "--help" => Argument::Print(About::Help),
+        "-V" | "--version" => Argument::Print(About::Version),
+        "--man" => Argument::Print(About::Manual),
+        "--completions" => Argument::Completions,
+        _ => match classify_valued_option(argument) {
+            Some(kind) => kind,
+            None => Argument::Unknown,
+        },
     }
-    if argument == "--" {
-        return Argument::End;
-    }
-    if argument == "--hash" {
-        return Argument::Hash;
-    }
-    if argument == "-f" || argument == "--fold" {
-        return Argument::Fold;
-    }
-    if argument == "-h" || argument == "--help" {
-        return Argument::Print(About::Help);
-    }
-    if argument == "-V" || argument == "--version" {
-        return Argument::Print(About::Version);
-    }
-    if argument == "--man" {
-        return Argument::Print(About::Manual);
-    }
-    if argument == "--completions" {
-        return Argument::Completions;
-    }
-    if let Some(name) = argument.strip_prefix("--completions=") {
-        return Argument::CompletionsOf(name);
-    }
-    if let Some(value) = option_value(argument, "-i", "--input") {
-        return Argument::Valued(ValuedOption::Input, value);
-    }
-    if let Some(value) = option_value(argument, "-o", "--output") {
-        return Argument::Valued(ValuedOption::Output, value);
-    }
-    if let Some(value) = option_value(argument, "-l", "--limit") {
-        return Argument::Valued(ValuedOption::Limit, value);
-    }
-    Argument::Unknown
 }
 
 /// Returns the shell of this name. Fails if there is none.
