@@ -153,7 +153,16 @@ NEW_COUNTS = {
     "rustc_demangle/src/text.rt": {"put_text": 1},
 }
 # Crates that only test or measure.
-TESTING = ("demangle_calls", "demangle_corpus", "demangle_vectors", "filter_tests", "kodliwe_tests", "test_doubles")
+TESTING = (
+    "corpus_program",
+    "corpus_tests",
+    "demangle_calls",
+    "demangle_corpus",
+    "demangle_vectors",
+    "filter_tests",
+    "kodliwe_tests",
+    "test_doubles",
+)
 
 
 def new_counts(path):

@@ -1,15 +1,7 @@
 //! Compares the library's results with those of the Rust crate, which are read from standard input.
 #![tactic(auto)]
 
-mod case;
-mod column;
-mod corpus;
-mod pieces_sink;
-mod results;
-#[cfg(test)]
-mod tests;
-
-use corpus::{CorpusError, Counts, corpus_run};
+use corpus_program::corpus::{CorpusError, Counts, corpus_run};
 use std::io::{BufReader, BufWriter};
 use std::process::ExitCode;
 

@@ -1,13 +1,8 @@
 //! Copies standard input to standard output with each Rust symbol demangled.
 #![tactic(auto)]
 
-mod filter;
-mod flushing;
-#[cfg(test)]
-mod tests;
-
-use filter::{OUT_OF_MEMORY, USAGE, filter_run, report};
-use flushing::FlushingOutput;
+use filter_program::filter::{OUT_OF_MEMORY, USAGE, filter_run, report};
+use filter_program::flushing::FlushingOutput;
 use std::io::{BufReader, BufWriter, ErrorKind};
 use std::process::ExitCode;
 use std::rt::Env;

@@ -4,6 +4,7 @@ mod bytes;
 mod bytes_before;
 mod faults;
 mod formats;
+mod memo;
 mod memory;
 mod repeats;
 mod slices;

@@ -1,4 +1,4 @@
-//! Tests of what the program `kodliwe` does.
+//! Tests of what the programs `kodliwe` and `demangle_filter` do.
 #![tactic(auto)]
 
 #[cfg(test)]

@@ -12,9 +12,6 @@ use comparisons::are_equal;
 use std::alloc::Global;
 use std::mem;
 
-#[cfg(test)]
-mod tests;
-
 /// The number of pairs of entries. The hash of a key chooses its pair.
 const PAIRS: usize = 8192;
 

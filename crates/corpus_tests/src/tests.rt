@@ -1,5 +1,5 @@
 //! Tests of the text that a comparison of lines in memory writes.
-use crate::corpus::{CorpusError, corpus_run};
+use corpus_program::corpus::{CorpusError, corpus_run};
 use std::alloc::{AllocError, Global};
 use std::test::Fail;
 

@@ -1,7 +1,7 @@
 use Rattle.std.proofs.Common.{◌*◌, ◌≤◌}
 use Rattle.std.specs.Io.Iter.{lines_known_bytes}
-use Rattle.demangle_corpus.proofs.LineCounts.{Counting}
-use Rattle.demangle_corpus.proofs.corpus.corpus_run.Given as goal
+use Rattle.corpus_program.proofs.LineCounts.{Counting}
+use Rattle.corpus_program.proofs.corpus.corpus_run.Given as goal
 
 abbrev pub invariant-loop-line : goal.invariant-loop-line
 invariant-loop-line g l = (l.counts.differences ≤ 4 * l.counts.lines)

@@ -2,7 +2,7 @@
 ghost use Rattle.std.specs.Prelude.{◌≡◌, ◌+◌, ◌*◌, ◌≤◌, IfOk, IfSome, length};
 ghost use Rattle.std.specs.Io.Iter.{u64_saturate};
 ghost use Rattle.rustc_demangle.specs.Lines.{lines};
-ghost use Rattle.demangle_corpus.specs.Differences.{difference};
+ghost use Rattle.corpus_program.specs.Differences.{difference};
 
 use crate::case::{Case, Expected, Forms, Results};
 use crate::results::{limited_forms, pieces_forms, results_of};

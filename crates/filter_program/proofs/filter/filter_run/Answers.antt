@@ -1,7 +1,7 @@
 use Rattle.std.proofs.Common.{◌≡◌, ◌≢◌, [], ◌∷◌, codes, length, map, string_bytes, ℕ, List, get_or, arith, refl, sym, ap, ◌∙◌}
 use Rattle.std.proofs.lemmas.Slice.Eq.{bytes_eq-Decides}
-use Rattle.demangle_filter.proofs.filter.filter_run.Goals as goal
-use Rattle.demangle_filter.proofs.filter.filter_run.Goals.{in-empty, in-len1}
+use Rattle.filter_program.proofs.filter.filter_run.Goals as goal
+use Rattle.filter_program.proofs.filter.filter_run.Goals.{in-empty, in-len1}
 
 one_word : {S : Type 0} (f : S → List ℕ) (args : List S) (w : S) (text : List ℕ) → length args ≡ 1 → w ≡ get_or args 0 w → f w ≡ text → map f args ≡ text ∷ []
 one_word f [] w text one at is = absurd (omega (arith, one))

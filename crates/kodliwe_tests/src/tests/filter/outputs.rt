@@ -1,6 +1,6 @@
 //! Tests of the output's buffer, with a writer that takes a part of a write or fails once.
 use super::{WRITE_FAILED, assert_failed, run_pausing};
-use crate::flushing::FlushingOutput;
+use filter_program::flushing::FlushingOutput;
 use piece_buffer::CAPACITY;
 use std::alloc::Global;
 use std::io;

@@ -2,8 +2,8 @@ use Rattle.std.proofs.Common.{◌++◌, ◌∷◌, [], ap, ◌∙◌}
 use Rattle.std.specs.List.{concat}
 use Rattle.std.proofs.lemmas.List.{append-nil}
 use Rattle.std.proofs.lemmas.List.Folds.{concat-append}
-use Rattle.demangle_corpus.specs.PiecesSink.{taken_pieces}
-use Rattle.demangle_corpus.proofs.pieces_sink.PiecesSinkTextSink.put.Goals as goal
+use Rattle.corpus_program.specs.PiecesSink.{taken_pieces}
+use Rattle.corpus_program.proofs.pieces_sink.PiecesSinkTextSink.put.Goals as goal
 
 -- src/pieces_sink.rt:60:5
 pub returns-in-Ok-clause-taken : goal.returns-in-Ok-clause-taken

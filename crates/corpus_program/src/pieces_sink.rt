@@ -4,7 +4,7 @@ ghost use Rattle.std.specs.List.{concat};
 ghost use Rattle.std.specs.String.{string_bytes};
 ghost use Rattle.std.proofs.Common.{sym, ap, ◌∙◌};
 ghost use Rattle.std.proofs.lemmas.List.{append-nil, append_assoc};
-ghost use Rattle.demangle_corpus.specs.PiecesSink.{taken_pieces};
+ghost use Rattle.corpus_program.specs.PiecesSink.{taken_pieces};
 
 use rustc_demangle::sink::{SinkRefused, TextSink};
 use std::alloc::{AllocError, Global};

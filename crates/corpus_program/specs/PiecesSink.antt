@@ -1,6 +1,6 @@
 use Rattle.std.specs.Prelude.{ℕ, List, map}
 use Rattle.std.specs.String.{string_bytes}
-use Rattle.demangle_corpus.specs.declared.pieces_sink.PiecesSink.{PiecesSink}
+use Rattle.corpus_program.specs.declared.pieces_sink.PiecesSink.{PiecesSink}
 
 -- the pieces that a sink has taken
 abbrev pub taken_pieces : PiecesSink → List (List ℕ)

@@ -1,8 +1,8 @@
 //! Tests a memo with keys that share a hash, long keys and full memory.
 ghost use Rattle.std.specs.Prelude.{◌<◌, length};
 
-use super::{Comparisons, MAX_KEY, MAX_TEXT, Noted, TextMemo, hash_of};
 use std::test::Fail;
+use text_memo::{Comparisons, MAX_KEY, MAX_TEXT, Noted, TextMemo, hash_of};
 
 /// Returns the text that a memo has for a key.
 fn text_of<'m>(memo: &'m TextMemo, key: &[u8], hash: u64) -> Option<&'m [u8]>

@@ -1,6 +1,6 @@
 use Rattle.std.proofs.Common.{arith}
-use Rattle.demangle_corpus.proofs.LineCounts.{counting_init, counting_step, counting_end}
-use Rattle.demangle_corpus.proofs.corpus.corpus_run.Goals as goal
+use Rattle.corpus_program.proofs.LineCounts.{counting_init, counting_step, counting_end}
+use Rattle.corpus_program.proofs.corpus.corpus_run.Goals as goal
 
 pub loop-line-init : goal.loop-line-init
 loop-line-init g c =

@@ -1,7 +1,7 @@
-//! Tests of the program's own part: its arguments, statuses and texts, and the times of its
-//! flushes. The library's tests cover the demangled output.
-use crate::filter::filter_run;
-use crate::flushing::FlushingOutput;
+//! Tests of what `demangle_filter` does itself: its arguments, statuses and texts, and the times of
+//! its flushes. The library's tests cover the demangled output.
+use filter_program::filter::filter_run;
+use filter_program::flushing::FlushingOutput;
 use piece_buffer::CAPACITY;
 use std::alloc::{AllocError, Global};
 use std::cell::Cell;
@@ -37,7 +37,7 @@ fn run<R: BufRead, W: Write>(
 }
 
 /// Asserts that a run over a text succeeds and writes this output.
-fn assert_writes(
+fn assert_run_writes(
     rt: &impl Abort,
     alloc: Global,
     args: &[&str],
@@ -57,15 +57,15 @@ fn assert_writes(
 fn symbols_are_demangled_with_their_hash_or_without(rt: HostRuntime) -> Result<(), AllocError> {
     let text = b"x _ZN3foo17h05af221e174051e9E\r\n\n_RCs_3foo";
     let alloc = rt.alloc();
-    assert_writes(
+    assert_run_writes(
         &rt,
         alloc,
         &[],
         text,
         b"x foo::h05af221e174051e9\r\n\nfoo[1]",
     )?;
-    assert_writes(&rt, alloc, &["--no-hash"], text, b"x foo\r\n\nfoo")?;
-    assert_writes(&rt, alloc, &[], b"", b"")
+    assert_run_writes(&rt, alloc, &["--no-hash"], text, b"x foo\r\n\nfoo")?;
+    assert_run_writes(&rt, alloc, &[], b"", b"")
 }
 
 #[test]
