@@ -154,6 +154,7 @@ NEW_COUNTS = {
 }
 # Crates that only test or measure.
 TESTING = (
+    "call_tests",
     "corpus_program",
     "corpus_tests",
     "demangle_calls",
@@ -161,6 +162,7 @@ TESTING = (
     "demangle_vectors",
     "filter_tests",
     "kodliwe_tests",
+    "limit_tests",
     "test_doubles",
 )
 

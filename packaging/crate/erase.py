@@ -65,7 +65,9 @@ class Package(NamedTuple):
 
 # A package comes after the one below it.
 PACKAGES = (
-    Package("kodliwe", ("rustc_demangle",), ("test_doubles", "demangle_vectors", "filter_tests"), has_features=True),
+    Package(
+        "kodliwe", ("rustc_demangle",), ("test_doubles", "demangle_vectors", "call_tests", "limit_tests", "filter_tests"), has_features=True
+    ),
     Package("kodliwe-cli", ("kodliwe", "demangle_filter"), ("test_doubles", "kodliwe_tests"), "kodliwe", "stream"),
     Package("rustc-demangle"),
     Package("kodliwe-capi", ("demangle_c",), below="kodliwe"),

@@ -1,6 +1,6 @@
 //! Tests of symbols that are cut off.
-use super::printed_by;
 use super::vectors::texts;
+use crate::printed_by;
 use rustc_demangle::{demangle, demangle_bytes, demangle_stream, stays, try_demangle};
 use std::alloc::Global;
 use std::io::ErrorKind;

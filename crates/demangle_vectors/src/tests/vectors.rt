@@ -1,6 +1,7 @@
 //! The vectors of the Rust crate's tests.
 use super::v0_constants::assert_constant;
-use super::{assert_prints, assert_rejected, repeat_between};
+use super::{assert_prints, assert_rejected};
+use crate::repeat_between;
 use std::alloc::{AllocError, Global};
 use std::test::Fail;
 

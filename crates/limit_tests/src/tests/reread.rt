@@ -1,5 +1,5 @@
 //! Tests of formats that limit the bytes that references make a print read again.
-use super::repeat_between;
+use demangle_vectors::repeat_between;
 use rustc_demangle::sink::ArraySink;
 use rustc_demangle::{Form, Format, RereadLimit, SizeLimit, demangle};
 use std::process::Abort;

@@ -1,6 +1,6 @@
 //! Tests of texts that are not symbols.
 use super::assert_rejected;
-use crate::printed_is;
+use demangle_vectors::printed_is;
 
 #[test]
 fn texts_that_no_grammar_spells_print_themselves(rt: HostRuntime) {

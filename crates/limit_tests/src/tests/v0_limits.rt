@@ -1,5 +1,6 @@
 //! Tests of v0 symbols at their limits: depth, the length of a name, and the size of the output.
-use super::{assert_prints, assert_prints_long, assert_rejected, print_symbol, repeat_between};
+use super::{assert_prints, assert_prints_long, assert_rejected};
+use demangle_vectors::{print_symbol, repeat_between};
 use rustc_demangle::sink::WriteSink;
 use rustc_demangle::{demangle, try_demangle};
 use std::alloc::{AllocError, Global};

@@ -1,5 +1,6 @@
 //! Tests of v0 symbols that are long.
-use super::{assert_prints_long, print_symbol, repeat_between};
+use super::assert_prints_long;
+use demangle_vectors::{print_symbol, repeat_between};
 use rustc_demangle::try_demangle;
 use std::test::Fail;
 

@@ -1,6 +1,7 @@
 //! Tests of references that lead to one target many times. A sink that holds its text gets the same
 //! as one that does not.
-use super::{assert_prints, repeat_between};
+use super::assert_prints;
+use demangle_vectors::repeat_between;
 use rustc_demangle::sink::{ArraySink, SliceSink};
 use rustc_demangle::{Form, Format, RereadLimit, SizeLimit, demangle, demangle_slice};
 use std::process::Abort;

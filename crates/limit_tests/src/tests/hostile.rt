@@ -1,5 +1,6 @@
 //! Tests of symbols that are made to do harm.
-use super::{assert_prints, assert_rejected, print_symbol};
+use super::{assert_prints, assert_rejected};
+use demangle_vectors::print_symbol;
 use std::test::Fail;
 
 #[test]

@@ -1,0 +1,5 @@
+//! Tests of limits, and of references and fuel.
+#![tactic(auto)]
+
+#[cfg(test)]
+mod tests;
