@@ -4,8 +4,10 @@ use rustc_demangle::{
     Looks, StreamFault, demangle, demangle_counted, demangle_stream, demangle_stream_named,
     try_demangle,
 };
+use std::alloc::Global;
 use std::io;
 use std::io::ErrorKind;
+use std::process::Abort;
 use std::test::Fail;
 
 const SYMBOL: &str = "_ZN3foo17h05af221e174051e9E.x.llvm.AB";
@@ -150,23 +152,29 @@ fn streams_are_copied(rt: HostRuntime) -> Result<(), Fail> {
     Ok(())
 }
 
+/// Asserts the kind and the text of the error that a fault becomes.
+fn assert_becomes(
+    rt: &impl Abort,
+    alloc: Global,
+    fault: StreamFault,
+    wanted: (ErrorKind, &str),
+) -> Result<(), Fail> {
+    let (kind, text) = wanted;
+    let error = fault.into_io();
+    assert_eq!(rt; error.kind(), kind);
+    assert_eq!(rt; format!(in alloc; "{error}")?.as_str(), text);
+    Ok(())
+}
+
 #[test]
 fn faults_become_errors(rt: HostRuntime) -> Result<(), Fail> {
     let alloc = rt.alloc();
-    let read = StreamFault::Read(io::Error::new(ErrorKind::TimedOut, "late")).into_io();
-    assert_eq!(rt; read.kind(), ErrorKind::TimedOut);
-    assert_eq!(rt; format!(in alloc; "{read}")?.as_str(), "late");
-    let write = StreamFault::Write(io::Error::new(ErrorKind::BrokenPipe, "gone")).into_io();
-    assert_eq!(rt; write.kind(), ErrorKind::BrokenPipe);
-    assert_eq!(rt; format!(in alloc; "{write}")?.as_str(), "gone");
-    let bytes = StreamFault::NotUtf8.into_io();
-    assert_eq!(rt; bytes.kind(), ErrorKind::InvalidData);
-    assert_eq!(rt;
-        format!(in alloc; "{bytes}")?.as_str(),
-        "the stream is not UTF-8"
-    );
-    let memory = StreamFault::Memory.into_io();
-    assert_eq!(rt; memory.kind(), ErrorKind::OutOfMemory);
-    assert_eq!(rt; format!(in alloc; "{memory}")?.as_str(), "out of memory");
-    Ok(())
+    let read = StreamFault::Read(io::Error::new(ErrorKind::TimedOut, "late"));
+    assert_becomes(&rt, alloc, read, (ErrorKind::TimedOut, "late"))?;
+    let write = StreamFault::Write(io::Error::new(ErrorKind::BrokenPipe, "gone"));
+    assert_becomes(&rt, alloc, write, (ErrorKind::BrokenPipe, "gone"))?;
+    let bytes = (ErrorKind::InvalidData, "the stream is not UTF-8");
+    assert_becomes(&rt, alloc, StreamFault::NotUtf8, bytes)?;
+    let memory = (ErrorKind::OutOfMemory, "out of memory");
+    assert_becomes(&rt, alloc, StreamFault::Memory, memory)
 }

@@ -1,8 +1,41 @@
-//! Tests of `Display` and `Debug`.
+//! Tests of `Display` and `Debug`. What a test asserts is run, not proved, so that its helpers have
+//! no contract.
 use rustc_demangle::demangle;
+use std::alloc::{AllocError, Global};
 use std::fmt;
-use std::fmt::Write;
+use std::fmt::{Debug, Display, Write};
 use std::test::Fail;
+
+/// Returns the texts of a value for `Display` and for `Debug`.
+fn texts_of<T: Display + Debug>(alloc: Global, value: &T) -> Result<[String; 2], AllocError> {
+    Ok([
+        format!(in alloc; "{}", value)?,
+        format!(in alloc; "{:?}", value)?,
+    ])
+}
+
+/// Returns both texts of a value with the alternate flag.
+fn alternate_texts<T: Display + Debug>(
+    alloc: Global,
+    value: &T,
+) -> Result<[String; 2], AllocError> {
+    Ok([
+        format!(in alloc; "{:#}", value)?,
+        format!(in alloc; "{:#?}", value)?,
+    ])
+}
+
+/// Returns the texts of a value with other flags.
+fn flagged_texts<T: Display + Debug>(alloc: Global, value: &T) -> Result<[String; 6], AllocError> {
+    Ok([
+        format!(in alloc; "{:>40}", value)?,
+        format!(in alloc; "{:*^+040.2}", value)?,
+        format!(in alloc; "{:>40?}", value)?,
+        format!(in alloc; "{:40?}", value)?,
+        format!(in alloc; "{:.3?}", value)?,
+        format!(in alloc; "{:#>40.3?}", value)?,
+    ])
+}
 
 #[test]
 fn the_alternate_flag_leaves_out_the_hash(rt: HostRuntime) -> Result<(), Fail> {
@@ -24,16 +57,15 @@ fn the_alternate_flag_leaves_out_the_hash(rt: HostRuntime) -> Result<(), Fail> {
         ("no symbol.llvm.AB", "no symbol", "no symbol"),
     ] {
         let symbol = demangle(symbol);
-        assert_eq!(rt; format!(in alloc; "{}", symbol)?.as_str(), plain);
-        assert_eq!(rt; format!(in alloc; "{:?}", symbol)?.as_str(), plain);
-        assert_eq!(rt; format!(in alloc; "{:>40}", symbol)?.as_str(), plain);
-        assert_eq!(rt; format!(in alloc; "{:*^+040.2}", symbol)?.as_str(), plain);
-        assert_eq!(rt; format!(in alloc; "{:#}", symbol)?.as_str(), alt);
-        assert_eq!(rt; format!(in alloc; "{:>40?}", symbol)?.as_str(), plain);
-        assert_eq!(rt; format!(in alloc; "{:40?}", symbol)?.as_str(), plain);
-        assert_eq!(rt; format!(in alloc; "{:.3?}", symbol)?.as_str(), plain);
-        assert_eq!(rt; format!(in alloc; "{:#?}", symbol)?.as_str(), alt);
-        assert_eq!(rt; format!(in alloc; "{:#>40.3?}", symbol)?.as_str(), plain);
+        for text in texts_of(alloc, &symbol)?.iter() {
+            assert_eq!(rt; text.as_str(), plain);
+        }
+        for text in flagged_texts(alloc, &symbol)?.iter() {
+            assert_eq!(rt; text.as_str(), plain);
+        }
+        for text in alternate_texts(alloc, &symbol)?.iter() {
+            assert_eq!(rt; text.as_str(), alt);
+        }
     }
     Ok(())
 }
@@ -49,15 +81,12 @@ fn a_symbol_of_ten_thousand_bytes_is_written_whole(rt: HostRuntime) -> Result<()
     }
     symbol.push_str("E")?;
     let symbol = demangle(symbol.as_str());
-    assert_eq!(rt; format!(in alloc; "{}", symbol)?.as_str(), wanted.as_str());
-    assert_eq!(rt;
-        format!(in alloc; "{:#}", symbol)?.as_str(),
-        wanted.as_str()
-    );
-    assert_eq!(rt;
-        format!(in alloc; "{:?}", symbol)?.as_str(),
-        wanted.as_str()
-    );
+    for text in texts_of(alloc, &symbol)?.iter() {
+        assert_eq!(rt; text.as_str(), wanted.as_str());
+    }
+    for text in alternate_texts(alloc, &symbol)?.iter() {
+        assert_eq!(rt; text.as_str(), wanted.as_str());
+    }
     Ok(())
 }
 
@@ -77,25 +106,26 @@ impl fmt::Write for Refusing {
     }
 }
 
+/// Returns whether the text of a value is written where only so many bytes are taken.
+fn is_displayed<T: Display>(value: &T, left: usize) -> bool {
+    let mut text = Refusing { left };
+    write!(text, "{}", value).is_ok()
+}
+
+/// Returns whether the text of a value for `Debug` is.
+fn is_debugged<T: Debug>(value: &T, left: usize) -> bool {
+    let mut text = Refusing { left };
+    write!(text, "{:?}", value).is_ok()
+}
+
 #[test]
 fn a_refused_text_is_an_error(rt: HostRuntime) {
     let symbol = demangle("_ZN1a1bE.x");
     for left in 0..7usize {
-        let mut text = Refusing { left };
-        assert_eq!(rt;
-            write!(text, "{}", symbol).is_ok(),
-            left == 6,
-            "with {left}"
-        );
-        let mut text = Refusing { left };
-        assert_eq!(rt;
-            write!(text, "{:?}", symbol).is_ok(),
-            left == 6,
-            "with {left}"
-        );
+        assert_eq!(rt; is_displayed(&symbol, left), left == 6, "with {left}");
+        assert_eq!(rt; is_debugged(&symbol, left), left == 6, "with {left}");
     }
-    let mut text = Refusing { left: 0 };
-    assert!(rt; write!(text, "{}", demangle("_ZNE")).is_ok());
+    assert!(rt; is_displayed(&demangle("_ZNE"), 0));
 }
 
 #[test]
@@ -108,12 +138,7 @@ fn a_refused_text_of_a_long_path_is_an_error(rt: HostRuntime) -> Result<(), Fail
     symbol.push_str("E.x")?;
     let symbol = demangle(symbol.as_str());
     for left in 0..454usize {
-        let mut text = Refusing { left };
-        assert_eq!(rt;
-            write!(text, "{}", symbol).is_ok(),
-            left == 453,
-            "with {left}"
-        );
+        assert_eq!(rt; is_displayed(&symbol, left), left == 453, "with {left}");
     }
     Ok(())
 }

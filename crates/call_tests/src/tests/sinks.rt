@@ -1,8 +1,11 @@
-//! Tests of sinks that take a part of the text, and of their contents then.
+//! Tests of sinks that take a part of the text, and of their contents then. What a test asserts is
+//! run, not proved, so that its helpers have no contract.
 use rustc_demangle::sink::{ArraySink, TextSink, WriteSink};
-use rustc_demangle::{demangle, demangle_stream};
+use rustc_demangle::{Demangle, demangle, demangle_stream};
+use std::alloc::Global;
 use std::io;
 use std::io::{ErrorKind, Write};
+use std::process::Abort;
 use std::test::Fail;
 use test_doubles::RefusingSink;
 
@@ -47,17 +50,23 @@ fn a_full_sink_holds_the_pieces_before_the_rejected_one(rt: HostRuntime) {
     }
 }
 
+/// Asserts that a sink that takes this many of a symbol's four pieces has this text then.
+fn assert_takes(rt: &impl Abort, symbol: &Demangle<'_>, include_hash: bool, taken: (usize, &str)) {
+    let (pieces, text) = taken;
+    let mut sink = RefusingSink::new(pieces.saturating_add(1));
+    let result = symbol.write_to(&mut sink, include_hash);
+    assert_eq!(rt; result.is_ok(), pieces == 4, "after {pieces}");
+    assert_eq!(rt; sink.is_failed(), pieces != 4, "after {pieces}");
+    assert_eq!(rt; sink.as_str(), text, "after {pieces}");
+}
+
 #[test]
 fn each_piece_is_rejected_in_turn(rt: HostRuntime) {
     let symbol = demangle("_ZN1a1bE.x");
     let texts = ["", "a", "a::", "a::b", "a::b.x"];
     for (pieces, text) in texts.iter().enumerate() {
         for include_hash in [true, false] {
-            let mut sink = RefusingSink::new(pieces.saturating_add(1));
-            let result = symbol.write_to(&mut sink, include_hash);
-            assert_eq!(rt; result.is_ok(), pieces == 4, "after {pieces}");
-            assert_eq!(rt; sink.is_failed(), pieces != 4, "after {pieces}");
-            assert_eq!(rt; sink.as_str(), *text, "after {pieces}");
+            assert_takes(&rt, &symbol, include_hash, (pieces, *text));
         }
     }
 }
@@ -67,11 +76,7 @@ fn each_piece_of_a_disambiguator_is_rejected_in_turn(rt: HostRuntime) {
     let symbol = demangle("_RCs_3foo");
     let texts = ["", "foo", "foo[", "foo[1", "foo[1]"];
     for (pieces, text) in texts.iter().enumerate() {
-        let mut sink = RefusingSink::new(pieces.saturating_add(1));
-        let result = symbol.write_to(&mut sink, true);
-        assert_eq!(rt; result.is_ok(), pieces == 4, "after {pieces}");
-        assert_eq!(rt; sink.is_failed(), pieces != 4, "after {pieces}");
-        assert_eq!(rt; sink.as_str(), *text, "after {pieces}");
+        assert_takes(&rt, &symbol, true, (pieces, *text));
     }
 }
 
@@ -105,6 +110,14 @@ fn a_write_sink_holds_the_error_of_its_writer(rt: HostRuntime) {
     assert!(rt; bytes.starts_with(b"a::"));
 }
 
+/// Returns what a writer counts of a text that the stream copies to it.
+fn count_of(alloc: Global, text: &[u8]) -> io::Result<CountingWriter> {
+    let mut input = text;
+    let mut writer = CountingWriter::default();
+    demangle_stream(alloc, &mut input, &mut writer, true)?;
+    Ok(writer)
+}
+
 #[test]
 fn a_write_sink_writes_each_piece_once_and_flushes_nothing(rt: HostRuntime) -> Result<(), Fail> {
     for (symbol, texts, bytes) in [("_ZN1a1bE.x", 4, 6), ("_ZN1a0E", 2, 3), ("_ZNE", 0, 0)] {
@@ -116,13 +129,7 @@ fn a_write_sink_writes_each_piece_once_and_flushes_nothing(rt: HostRuntime) -> R
         assert_eq!(rt; writer.bytes, bytes, "of {symbol}");
         assert_eq!(rt; writer.flushes, 0, "of {symbol}");
     }
-    let mut writer = CountingWriter::default();
-    demangle_stream(
-        rt.alloc(),
-        &mut b"_ZN1a1bE.x\n".as_slice(),
-        &mut writer,
-        true,
-    )?;
+    let writer = count_of(rt.alloc(), b"_ZN1a1bE.x\n")?;
     assert_eq!(rt; (writer.texts, writer.bytes, writer.flushes), (5, 7, 0));
     Ok(())
 }
