@@ -8,6 +8,7 @@
 use std::process::ExitCode;
 
 mod demangle_filter;
+mod filter_program;
 mod kodliwe;
 mod kodliwe_program;
 #[cfg(test)]

@@ -48,6 +48,8 @@
 #![cfg_attr(not(feature = "std"), no_std)]
 #![warn(missing_docs)]
 
+#[cfg(all(test, feature = "stream"))]
+mod call_tests;
 mod demangle_legacy;
 mod demangle_sink;
 mod demangle_symbol;
@@ -62,6 +64,8 @@ mod filter_tests;
 mod format;
 #[doc(hidden)]
 pub mod internal;
+#[cfg(all(test, feature = "stream"))]
+mod limit_tests;
 #[cfg(feature = "stream")]
 mod piece_buffer;
 mod rustc_demangle;

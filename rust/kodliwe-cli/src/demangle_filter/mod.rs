@@ -1,20 +1,15 @@
 // Made from crates/demangle_filter/src/main.rt by packaging/crate/erase.py: edit that file instead.
 //! Copies standard input to standard output with each Rust symbol demangled.
+use crate::filter_program::filter::{OUT_OF_MEMORY, USAGE, filter_run, report};
+use crate::filter_program::flushing::FlushingOutput;
+use crate::support::env;
+use crate::support::io::{BufReader, BufWriter};
 use crate::support::rt::AllocGlobal;
+use crate::support::rt::Env;
 use crate::support::rt::HostRuntime;
 use crate::support::string::String;
 use crate::support::vec::CollectIn;
 use crate::support::vec::Vec;
-mod filter;
-mod flushing;
-#[cfg(test)]
-mod tests;
-
-use crate::support::env;
-use crate::support::io::{BufReader, BufWriter};
-use crate::support::rt::Env;
-use filter::{OUT_OF_MEMORY, USAGE, filter_run, report};
-use flushing::FlushingOutput;
 use std::io;
 use std::io::ErrorKind;
 use std::process::ExitCode;

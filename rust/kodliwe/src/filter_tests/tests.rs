@@ -5,6 +5,7 @@ mod bytes;
 mod bytes_before;
 mod faults;
 mod formats;
+mod memo;
 mod repeats;
 mod slices;
 mod stream;

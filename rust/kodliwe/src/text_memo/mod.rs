@@ -10,9 +10,6 @@ use comparisons::are_equal;
 #[cfg(all(test, feature = "stream"))]
 use core::mem;
 
-#[cfg(test)]
-mod tests;
-
 /// The number of pairs of entries. The hash of a key chooses its pair.
 const PAIRS: usize = 8192;
 

@@ -18,48 +18,41 @@ fn option_value<'a>(argument: &'a str, short: &str, long: &str) -> Option<Option
     argument.strip_prefix(short).map(Some)
 }
 
+/// Returns the kind of an option that needs a value, which the argument may include. Returns `None`
+/// for `--completions` without its value, and for any other argument.
+fn classify_valued_option(argument: &str) -> Option<Argument<'_>> {
+    if let Some(name) = argument.strip_prefix("--completions=") {
+        return Some(Argument::CompletionsOf(name));
+    }
+    if let Some(value) = option_value(argument, "-i", "--input") {
+        return Some(Argument::Valued(ValuedOption::Input, value));
+    }
+    if let Some(value) = option_value(argument, "-o", "--output") {
+        return Some(Argument::Valued(ValuedOption::Output, value));
+    }
+    option_value(argument, "-l", "--limit")
+        .map(|value| Argument::Valued(ValuedOption::Limit, value))
+}
+
 /// Returns the kind of an argument before `--`.
 pub(super) fn classify(argument: &str) -> Argument<'_> {
     if !argument.starts_with("-") {
         return Argument::Symbol;
     }
-    if argument == "-" {
-        return Argument::Stdin;
+    match argument {
+        "-" => Argument::Stdin,
+        "--" => Argument::End,
+        "--hash" => Argument::Hash,
+        "-f" | "--fold" => Argument::Fold,
+        "-h" | "--help" => Argument::Print(About::Help),
+        "-V" | "--version" => Argument::Print(About::Version),
+        "--man" => Argument::Print(About::Manual),
+        "--completions" => Argument::Completions,
+        _ => match classify_valued_option(argument) {
+            Some(kind) => kind,
+            None => Argument::Unknown,
+        },
     }
-    if argument == "--" {
-        return Argument::End;
-    }
-    if argument == "--hash" {
-        return Argument::Hash;
-    }
-    if argument == "-f" || argument == "--fold" {
-        return Argument::Fold;
-    }
-    if argument == "-h" || argument == "--help" {
-        return Argument::Print(About::Help);
-    }
-    if argument == "-V" || argument == "--version" {
-        return Argument::Print(About::Version);
-    }
-    if argument == "--man" {
-        return Argument::Print(About::Manual);
-    }
-    if argument == "--completions" {
-        return Argument::Completions;
-    }
-    if let Some(name) = argument.strip_prefix("--completions=") {
-        return Argument::CompletionsOf(name);
-    }
-    if let Some(value) = option_value(argument, "-i", "--input") {
-        return Argument::Valued(ValuedOption::Input, value);
-    }
-    if let Some(value) = option_value(argument, "-o", "--output") {
-        return Argument::Valued(ValuedOption::Output, value);
-    }
-    if let Some(value) = option_value(argument, "-l", "--limit") {
-        return Argument::Valued(ValuedOption::Limit, value);
-    }
-    Argument::Unknown
 }
 
 /// Returns the shell of this name. Fails if there is none.

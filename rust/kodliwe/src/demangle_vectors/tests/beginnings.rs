@@ -1,7 +1,7 @@
 // Made from crates/demangle_vectors/src/tests/beginnings.rt by packaging/crate/erase.py: edit that file instead.
 //! Tests of symbols that are cut off.
-use super::printed_by;
 use super::vectors::texts;
+use crate::demangle_vectors::printed_by;
 use crate::rustc_demangle::{demangle, demangle_bytes, demangle_stream, stays, try_demangle};
 use crate::support::alloc::Global;
 use crate::support::rt::HostRuntime;

@@ -1,7 +1,8 @@
 // Made from crates/demangle_vectors/src/tests/vectors.rt by packaging/crate/erase.py: edit that file instead.
 //! The vectors of the Rust crate's tests.
 use super::v0_constants::assert_constant;
-use super::{assert_prints, assert_rejected, repeat_between};
+use super::{assert_prints, assert_rejected};
+use crate::demangle_vectors::repeat_between;
 use crate::support::alloc::{AllocError, Global};
 use crate::support::format;
 use crate::support::rt::HostRuntime;

@@ -1,4 +1,4 @@
-// Made from crates/demangle_filter/src/flushing.rt by packaging/crate/erase.py: edit that file instead.
+// Made from crates/filter_program/src/flushing.rt by packaging/crate/erase.py: edit that file instead.
 //! An output that is flushed before its program waits for more input.
 use core::cell::RefCell;
 use kodliwe::internal::piece_buffer::PieceBuffer;

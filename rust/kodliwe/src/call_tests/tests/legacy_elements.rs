@@ -1,4 +1,4 @@
-// Made from crates/demangle_vectors/src/tests/legacy_elements.rt by packaging/crate/erase.py: edit that file instead.
+// Made from crates/call_tests/src/tests/legacy_elements.rt by packaging/crate/erase.py: edit that file instead.
 //! Tests of known symbols.
 use crate::demangle_legacy::demangle;
 use crate::demangle_sink::{ArraySink, SizeLimitedFmtAdapter};

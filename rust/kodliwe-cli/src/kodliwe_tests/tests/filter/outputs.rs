@@ -1,7 +1,7 @@
-// Made from crates/demangle_filter/src/tests/outputs.rt by packaging/crate/erase.py: edit that file instead.
+// Made from crates/kodliwe_tests/src/tests/filter/outputs.rt by packaging/crate/erase.py: edit that file instead.
 //! Tests of the output's buffer, with a writer that takes a part of a write or fails once.
 use super::{WRITE_FAILED, assert_failed, run_pausing};
-use crate::demangle_filter::flushing::FlushingOutput;
+use crate::filter_program::flushing::FlushingOutput;
 use crate::support::alloc::Global;
 use crate::support::rt::HostRuntime;
 use crate::support::test::Fail;

@@ -1,9 +1,9 @@
-// Made from crates/text_memo/src/tests.rt by packaging/crate/erase.py: edit that file instead.
+// Made from crates/filter_tests/src/tests/memo.rt by packaging/crate/erase.py: edit that file instead.
 //! Tests a memo with keys that share a hash, long keys and full memory.
 
-use super::{MAX_KEY, MAX_TEXT, Noted, TextMemo, hash_of};
 use crate::support::rt::HostRuntime;
 use crate::support::test::Fail;
+use crate::text_memo::{MAX_KEY, MAX_TEXT, Noted, TextMemo, hash_of};
 
 /// Returns the text that a memo has for a key.
 fn text_of<'m>(memo: &'m TextMemo, key: &[u8], hash: u64) -> Option<&'m [u8]> {

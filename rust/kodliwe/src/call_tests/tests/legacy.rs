@@ -1,4 +1,4 @@
-// Made from crates/demangle_vectors/src/tests/legacy.rt by packaging/crate/erase.py: edit that file instead.
+// Made from crates/call_tests/src/tests/legacy.rt by packaging/crate/erase.py: edit that file instead.
 //! Tests of legacy symbols.
 use super::assert_prints;
 

@@ -1,6 +1,7 @@
-// Made from crates/demangle_vectors/src/tests/v0_hostile.rt by packaging/crate/erase.py: edit that file instead.
+// Made from crates/limit_tests/src/tests/v0_hostile.rt by packaging/crate/erase.py: edit that file instead.
 //! Tests of v0 symbols that are long.
-use super::{assert_prints_long, print_symbol, repeat_between};
+use super::assert_prints_long;
+use crate::demangle_vectors::{print_symbol, repeat_between};
 use crate::rustc_demangle::try_demangle;
 use crate::support::rt::HostRuntime;
 use crate::support::test::Fail;

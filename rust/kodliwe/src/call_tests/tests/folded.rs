@@ -1,4 +1,4 @@
-// Made from crates/demangle_vectors/src/tests/folded.rt by packaging/crate/erase.py: edit that file instead.
+// Made from crates/call_tests/src/tests/folded.rt by packaging/crate/erase.py: edit that file instead.
 //! Tests of symbols with `_` for their generic arguments.
 use super::assert_rejected;
 use crate::rustc_demangle::demangle;

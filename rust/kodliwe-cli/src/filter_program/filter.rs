@@ -1,4 +1,4 @@
-// Made from crates/demangle_filter/src/filter.rt by packaging/crate/erase.py: edit that file instead.
+// Made from crates/filter_program/src/filter.rt by packaging/crate/erase.py: edit that file instead.
 //! The program, over any streams.
 
 use crate::support::alloc::Global;

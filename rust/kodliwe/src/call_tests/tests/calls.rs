@@ -1,15 +1,17 @@
-// Made from crates/demangle_vectors/src/tests/calls.rt by packaging/crate/erase.py: edit that file instead.
+// Made from crates/call_tests/src/tests/calls.rt by packaging/crate/erase.py: edit that file instead.
 //! Tests of each public call, with an input for which it succeeds.
 use crate::rustc_demangle::sink::{ArraySink, SinkRefused, SliceSink, TextSink, WriteSink};
 use crate::rustc_demangle::{
     StreamFault, demangle, demangle_stream, demangle_stream_named, try_demangle,
 };
+use crate::support::alloc::Global;
 use crate::support::format;
 use crate::support::rt::HostRuntime;
-use crate::support::test::Fail;
 use crate::support::vec::Vec;
 use std::io;
 use std::io::ErrorKind;
+
+use crate::support::test::Fail;
 
 const SYMBOL: &str = "_ZN3foo17h05af221e174051e9E.x.llvm.AB";
 
@@ -149,24 +151,29 @@ fn streams_are_copied() -> Result<(), Fail> {
     Ok(())
 }
 
+/// Asserts the kind and the text of the error that a fault becomes.
+fn assert_becomes(
+    alloc: Global,
+    fault: StreamFault,
+    wanted: (ErrorKind, &str),
+) -> Result<(), Fail> {
+    let (kind, text) = wanted;
+    let error = fault.into_io();
+    assert_eq!(error.kind(), kind);
+    assert_eq!(format!(in alloc; "{error}")?.as_str(), text);
+    Ok(())
+}
+
 #[test]
 fn faults_become_errors() -> Result<(), Fail> {
     let rt = HostRuntime;
     let alloc = rt.alloc();
-    let read = StreamFault::Read(io::Error::new(ErrorKind::TimedOut, "late")).into_io();
-    assert_eq!(read.kind(), ErrorKind::TimedOut);
-    assert_eq!(format!(in alloc; "{read}")?.as_str(), "late");
-    let write = StreamFault::Write(io::Error::new(ErrorKind::BrokenPipe, "gone")).into_io();
-    assert_eq!(write.kind(), ErrorKind::BrokenPipe);
-    assert_eq!(format!(in alloc; "{write}")?.as_str(), "gone");
-    let bytes = StreamFault::NotUtf8.into_io();
-    assert_eq!(bytes.kind(), ErrorKind::InvalidData);
-    assert_eq!(
-        format!(in alloc; "{bytes}")?.as_str(),
-        "the stream is not UTF-8"
-    );
-    let memory = StreamFault::Memory.into_io();
-    assert_eq!(memory.kind(), ErrorKind::OutOfMemory);
-    assert_eq!(format!(in alloc; "{memory}")?.as_str(), "out of memory");
-    Ok(())
+    let read = StreamFault::Read(io::Error::new(ErrorKind::TimedOut, "late"));
+    assert_becomes(alloc, read, (ErrorKind::TimedOut, "late"))?;
+    let write = StreamFault::Write(io::Error::new(ErrorKind::BrokenPipe, "gone"));
+    assert_becomes(alloc, write, (ErrorKind::BrokenPipe, "gone"))?;
+    let bytes = (ErrorKind::InvalidData, "the stream is not UTF-8");
+    assert_becomes(alloc, StreamFault::NotUtf8, bytes)?;
+    let memory = (ErrorKind::OutOfMemory, "out of memory");
+    assert_becomes(alloc, StreamFault::Memory, memory)
 }

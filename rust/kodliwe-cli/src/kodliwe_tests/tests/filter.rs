@@ -1,8 +1,8 @@
-// Made from crates/demangle_filter/src/tests.rt by packaging/crate/erase.py: edit that file instead.
-//! Tests of the program's own part: its arguments, statuses and texts, and the times of its
-//! flushes. The library's tests cover the demangled output.
-use crate::demangle_filter::filter::filter_run;
-use crate::demangle_filter::flushing::FlushingOutput;
+// Made from crates/kodliwe_tests/src/tests/filter.rt by packaging/crate/erase.py: edit that file instead.
+//! Tests of what `demangle_filter` does itself: its arguments, statuses and texts, and the times of
+//! its flushes. The library's tests cover the demangled output.
+use crate::filter_program::filter::filter_run;
+use crate::filter_program::flushing::FlushingOutput;
 use crate::support::alloc::{AllocError, Global};
 use crate::support::io::BufReader;
 use crate::support::rt::HostRuntime;
@@ -42,7 +42,7 @@ fn run<R: BufRead, W: Write>(
 }
 
 /// Asserts that a run over a text succeeds and writes this output.
-fn assert_writes(
+fn assert_run_writes(
     alloc: Global,
     args: &[&str],
     text: &[u8],
@@ -62,9 +62,9 @@ fn symbols_are_demangled_with_their_hash_or_without() -> Result<(), AllocError> 
     let rt = HostRuntime;
     let text = b"x _ZN3foo17h05af221e174051e9E\r\n\n_RCs_3foo";
     let alloc = rt.alloc();
-    assert_writes(alloc, &[], text, b"x foo::h05af221e174051e9\r\n\nfoo[1]")?;
-    assert_writes(alloc, &["--no-hash"], text, b"x foo\r\n\nfoo")?;
-    assert_writes(alloc, &[], b"", b"")
+    assert_run_writes(alloc, &[], text, b"x foo::h05af221e174051e9\r\n\nfoo[1]")?;
+    assert_run_writes(alloc, &["--no-hash"], text, b"x foo\r\n\nfoo")?;
+    assert_run_writes(alloc, &[], b"", b"")
 }
 
 #[test]

@@ -1,6 +1,6 @@
-// Made from crates/demangle_vectors/src/tests/reread.rt by packaging/crate/erase.py: edit that file instead.
+// Made from crates/limit_tests/src/tests/reread.rt by packaging/crate/erase.py: edit that file instead.
 //! Tests of formats that limit the bytes that references make a print read again.
-use super::repeat_between;
+use crate::demangle_vectors::repeat_between;
 use crate::rustc_demangle::sink::ArraySink;
 use crate::rustc_demangle::{Form, Format, RereadLimit, SizeLimit, demangle};
 use crate::support::format;

@@ -1,4 +1,4 @@
-// Made from crates/demangle_vectors/src/tests/fuel.rt by packaging/crate/erase.py: edit that file instead.
+// Made from crates/limit_tests/src/tests/fuel.rt by packaging/crate/erase.py: edit that file instead.
 //! Tests of the fuel of a parse that prints before it is known whether a text is a symbol.
 use crate::demangle_sink::{ArraySink, SizeLimitedFmtAdapter};
 use crate::support::rt::HostRuntime;

@@ -1,6 +1,7 @@
-// Made from crates/demangle_vectors/src/tests/hostile.rt by packaging/crate/erase.py: edit that file instead.
+// Made from crates/limit_tests/src/tests/hostile.rt by packaging/crate/erase.py: edit that file instead.
 //! Tests of symbols that are made to do harm.
-use super::{assert_prints, assert_rejected, print_symbol};
+use super::{assert_prints, assert_rejected};
+use crate::demangle_vectors::print_symbol;
 use crate::support::format;
 use crate::support::rt::HostRuntime;
 use crate::support::test::Fail;

@@ -1,4 +1,4 @@
-// Made from crates/demangle_vectors/src/tests/pieces.rt by packaging/crate/erase.py: edit that file instead.
+// Made from crates/call_tests/src/tests/pieces.rt by packaging/crate/erase.py: edit that file instead.
 //! Tests of the pieces that sinks take and that the limit passes.
 use crate::demangle_sink::{ArraySink, SizeLimitedFmtAdapter, TextSink, put_char, put_each};
 

@@ -1,6 +1,7 @@
-// Made from crates/demangle_vectors/src/tests/v0_limits.rt by packaging/crate/erase.py: edit that file instead.
+// Made from crates/limit_tests/src/tests/v0_limits.rt by packaging/crate/erase.py: edit that file instead.
 //! Tests of v0 symbols at their limits: depth, the length of a name, and the size of the output.
-use super::{assert_prints, assert_prints_long, assert_rejected, print_symbol, repeat_between};
+use super::{assert_prints, assert_prints_long, assert_rejected};
+use crate::demangle_vectors::{print_symbol, repeat_between};
 use crate::rustc_demangle::sink::WriteSink;
 use crate::rustc_demangle::{demangle, try_demangle};
 use crate::support::alloc::{AllocError, Global};

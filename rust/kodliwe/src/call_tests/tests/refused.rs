@@ -1,4 +1,4 @@
-// Made from crates/demangle_vectors/src/tests/refused.rt by packaging/crate/erase.py: edit that file instead.
+// Made from crates/call_tests/src/tests/refused.rt by packaging/crate/erase.py: edit that file instead.
 //! Tests of texts that are not symbols.
 use super::assert_rejected;
 use crate::demangle_vectors::printed_is;

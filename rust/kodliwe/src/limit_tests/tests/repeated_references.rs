@@ -1,7 +1,8 @@
-// Made from crates/demangle_vectors/src/tests/repeated_references.rt by packaging/crate/erase.py: edit that file instead.
+// Made from crates/limit_tests/src/tests/repeated_references.rt by packaging/crate/erase.py: edit that file instead.
 //! Tests of references that lead to one target many times. A sink that holds its text gets the same
 //! as one that does not.
-use super::{assert_prints, repeat_between};
+use super::assert_prints;
+use crate::demangle_vectors::repeat_between;
 use crate::rustc_demangle::sink::{ArraySink, SliceSink};
 use crate::rustc_demangle::{Form, Format, RereadLimit, SizeLimit, demangle, demangle_slice};
 use crate::support::format;

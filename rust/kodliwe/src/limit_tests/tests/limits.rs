@@ -1,4 +1,4 @@
-// Made from crates/demangle_vectors/src/tests/limits.rt by packaging/crate/erase.py: edit that file instead.
+// Made from crates/limit_tests/src/tests/limits.rt by packaging/crate/erase.py: edit that file instead.
 //! Tests of symbols under a size limit.
 use super::assert_prints_long;
 use crate::rustc_demangle::demangle;

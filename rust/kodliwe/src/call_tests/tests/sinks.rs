@@ -1,12 +1,15 @@
-// Made from crates/demangle_vectors/src/tests/sinks.rt by packaging/crate/erase.py: edit that file instead.
-//! Tests of sinks that take a part of the text, and of their contents then.
+// Made from crates/call_tests/src/tests/sinks.rt by packaging/crate/erase.py: edit that file instead.
+//! Tests of sinks that take a part of the text, and of their contents then. What a test asserts is
+//! run, not proved, so that its helpers have no contract.
 use crate::rustc_demangle::sink::{ArraySink, TextSink, WriteSink};
-use crate::rustc_demangle::{demangle, demangle_stream};
+use crate::rustc_demangle::{Demangle, demangle, demangle_stream};
+use crate::support::alloc::Global;
 use crate::support::rt::HostRuntime;
-use crate::support::test::Fail;
-use crate::test_doubles::RefusingSink;
 use std::io;
 use std::io::{ErrorKind, Write};
+
+use crate::support::test::Fail;
+use crate::test_doubles::RefusingSink;
 
 /// Counts the texts that are written completely, their bytes, and the flushes.
 #[derive(Default)]
@@ -49,17 +52,23 @@ fn a_full_sink_holds_the_pieces_before_the_rejected_one() {
     }
 }
 
+/// Asserts that a sink that takes this many of a symbol's four pieces has this text then.
+fn assert_takes(symbol: &Demangle<'_>, include_hash: bool, taken: (usize, &str)) {
+    let (pieces, text) = taken;
+    let mut sink = RefusingSink::new(pieces.saturating_add(1));
+    let result = symbol.write_to(&mut sink, include_hash);
+    assert_eq!(result.is_ok(), pieces == 4, "after {pieces}");
+    assert_eq!(sink.is_failed(), pieces != 4, "after {pieces}");
+    assert_eq!(sink.as_str(), text, "after {pieces}");
+}
+
 #[test]
 fn each_piece_is_rejected_in_turn() {
     let symbol = demangle("_ZN1a1bE.x");
     let texts = ["", "a", "a::", "a::b", "a::b.x"];
     for (pieces, text) in texts.iter().enumerate() {
         for include_hash in [true, false] {
-            let mut sink = RefusingSink::new(pieces.saturating_add(1));
-            let result = symbol.write_to(&mut sink, include_hash);
-            assert_eq!(result.is_ok(), pieces == 4, "after {pieces}");
-            assert_eq!(sink.is_failed(), pieces != 4, "after {pieces}");
-            assert_eq!(sink.as_str(), *text, "after {pieces}");
+            assert_takes(&symbol, include_hash, (pieces, *text));
         }
     }
 }
@@ -69,11 +78,7 @@ fn each_piece_of_a_disambiguator_is_rejected_in_turn() {
     let symbol = demangle("_RCs_3foo");
     let texts = ["", "foo", "foo[", "foo[1", "foo[1]"];
     for (pieces, text) in texts.iter().enumerate() {
-        let mut sink = RefusingSink::new(pieces.saturating_add(1));
-        let result = symbol.write_to(&mut sink, true);
-        assert_eq!(result.is_ok(), pieces == 4, "after {pieces}");
-        assert_eq!(sink.is_failed(), pieces != 4, "after {pieces}");
-        assert_eq!(sink.as_str(), *text, "after {pieces}");
+        assert_takes(&symbol, true, (pieces, *text));
     }
 }
 
@@ -107,6 +112,14 @@ fn a_write_sink_holds_the_error_of_its_writer() {
     assert!(bytes.starts_with(b"a::"));
 }
 
+/// Returns what a writer counts of a text that the stream copies to it.
+fn count_of(alloc: Global, text: &[u8]) -> io::Result<CountingWriter> {
+    let mut input = text;
+    let mut writer = CountingWriter::default();
+    demangle_stream(alloc, &mut input, &mut writer, true)?;
+    Ok(writer)
+}
+
 #[test]
 fn a_write_sink_writes_each_piece_once_and_flushes_nothing() -> Result<(), Fail> {
     let rt = HostRuntime;
@@ -119,13 +132,7 @@ fn a_write_sink_writes_each_piece_once_and_flushes_nothing() -> Result<(), Fail>
         assert_eq!(writer.bytes, bytes, "of {symbol}");
         assert_eq!(writer.flushes, 0, "of {symbol}");
     }
-    let mut writer = CountingWriter::default();
-    demangle_stream(
-        rt.alloc(),
-        &mut b"_ZN1a1bE.x\n".as_slice(),
-        &mut writer,
-        true,
-    )?;
+    let writer = count_of(rt.alloc(), b"_ZN1a1bE.x\n")?;
     assert_eq!((writer.texts, writer.bytes, writer.flushes), (5, 7, 0));
     Ok(())
 }
