@@ -8,7 +8,8 @@ calls. So several edits are tried in one run of the prover, which is asked (`--o
   edit, is in the same run and has to be proved. So no refusal comes from the copying.
 - **Separate.** Other edits are tried in the functions themselves, several in a run if none changes what another's verdict rests on.
 - **Theorems.** All functions that a run does not ask for have a hole as their proof, and the run takes their theorems as they are stated.
-  The gate proves these from nothing. The crates of SEEDED are proved here once more instead.
+  The gate proves these from nothing. A caller knows their contracts alone, so their bodies are left out too: what the prover makes of
+  them, that of lifetimes above all, took 183 of the 847 seconds of the first run of `demangle_v0_parser`.
 
 Only a refusal as expected counts there: the first goal that fails in the function is of the clause that the edit names. A goal whose proof
 only names what the edit took away is none. But that may be said in a second line, which `rt must-fail` does not read, so it takes such a
@@ -31,9 +32,6 @@ from edits_source import Source, first_line, read
 PARTS = ("src", "specs", "proofs")
 # What a function's proof is made of if it has no file Proof.antt.
 ANSWERS = ("Answers.antt", "Invariants.antt")
-# Crates whose lemmas stand on the theorems of functions, so that a run with holes proves nearly all of them again. These are proved first,
-# and have no holes.
-SEEDED = {"demangle_v0_parser"}
 # The proof of a function whose theorem is taken as it is stated.
 HOLE = "use Rattle.%s.proofs.%s.Statement as stated\n\npub %s_spec : {M : Type 1} → stated.statement M\n%s_spec = ?\n"
 
@@ -62,12 +60,7 @@ class Trial:
             return [(self.alone, [edit]) for edit in self.edits]
         copied = copied_runs([edit for edit in self.edits if edit.is_copied])
         separate = separate_runs([edit for edit in self.edits if not edit.is_copied])
-        runs = [(self.copied, run) for run in copied] + [(self.separate, run) for run in separate]
-        return [(self.prove, [])] * (self.name in SEEDED) + runs
-
-    def prove(self, _):
-        """Proves the crate as it is, for the other runs to begin with."""
-        self.checked({}, [])
+        return [(self.copied, run) for run in copied] + [(self.separate, run) for run in separate]
 
     def copied(self, edits):
         """Tries edits in copies of their functions."""
@@ -190,14 +183,13 @@ class Trial:
     def asked(self, texts, names):
         """Asks the prover for these functions of the crate with these texts. The theorems of all others are taken as they are stated."""
         flags = [word for full in names for word in ("--only", full)]
-        if self.name in SEEDED:
-            return self.checked(texts, flags)
+        others = [function for function in self.source.functions if function.full not in names and self.source.is_proved(function)]
         holes = {}
-        for function in self.source.functions:
-            if function.full not in names and self.source.is_proved(function):
-                names_of = function.full.split("::")[1:]
-                place = "/".join(["proofs", *names_of])
-                holes[place + "/Proof.antt"] = HOLE % (self.name, ".".join(names_of), function.name, function.name)
+        for function in others:
+            names_of = function.full.split("::")[1:]
+            place = "/".join(["proofs", *names_of])
+            holes[place + "/Proof.antt"] = HOLE % (self.name, ".".join(names_of), function.name, function.name)
+        texts = self.source.without_bodies(texts, {function.full for function in others})
         return self.checked(texts, [*flags, "--allow-holes"], holes)
 
     def checked(self, texts, flags, holes=()):
