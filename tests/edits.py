@@ -17,10 +17,12 @@ With --try each edit has one of these ends, and all but the first are failures, 
 
 Several edits are tried in one run of the prover (tests/edits_trial.py says how, and why that shows the same). It reads the libraries of
 crates/*/out/rlib that `rt ci` proved in this checkout. `make` makes them too. With --gate the edits of a crate begin when FILE, which
-`rt ci` is writing, says that the crate is proved. With --alone each edit is tried by itself, over its whole crate, which takes three times
-as long. With --sample 5, so many of a hundred are tried both ways, and fail if the ends differ. Which they are is drawn by the hash of the
-commit, so each commit draws others. With --since COMMIT only those are tried that were changed since, or whose functions were. A line of a
-failure begins with `FAILED`. The last line is 'N passed, N failed'.
+`rt ci` is writing, says that the crate is proved. All processors are taken once it says that the gate ended.
+
+With --alone each edit is tried by itself, over its whole crate, which takes three times as long. With --sample 5, so many of a hundred are
+tried both ways, and fail if the ends differ. Which they are is drawn by the hash of the commit, so each commit draws others. With --since
+COMMIT only those are tried that were changed since, or whose functions were. A line of a failure begins with `FAILED`. The last line is
+'N passed, N failed'.
 """
 import argparse
 import hashlib
@@ -47,6 +49,7 @@ PROVED, OTHER = re.compile(r"rt: (\w+)(?: proved| is kept: .*)"), re.compile(r"r
 ENDED = "the gate ended"
 # The memory that has to be free before a run of the prover begins, in KB. The largest one takes 4 GB.
 FREE = 5 << 20
+PROCESSORS = len(os.sched_getaffinity(0))
 
 
 def wrong_names(edit, clauses):
@@ -90,6 +93,11 @@ class Gate:
             time.sleep(5)
         return True
 
+    def wait(self):
+        """Waits until the gate has ended."""
+        while self.path and os.path.exists(self.path) and ENDED not in read(self.path).splitlines():
+            time.sleep(5)
+
 
 def drawn(commit, crate, edit):
     """Returns the number of an edit from 0 to 99, which is another one for another commit."""
@@ -114,6 +122,14 @@ class Tries:
         self.turn, self.printing = threading.Semaphore(options.jobs), threading.Lock()
         self.commit = run(["git", "rev-parse", "HEAD"], cwd=ROOT).decode().strip() if options.sample else ""
         self.passed = self.failed = 0
+        if options.gate:
+            threading.Thread(target=self.take_all_processors, daemon=True).start()
+
+    def take_all_processors(self):
+        """Lets as many runs of the prover begin as there are processors, once the gate has ended."""
+        self.gate.wait()
+        for _ in range(PROCESSORS - self.options.jobs):
+            self.turn.release()
 
     def tell(self, text):
         with self.printing:
@@ -141,7 +157,7 @@ class Tries:
         for call, edits in runs[:1]:
             self.in_turn(call, edits)
         trial.begun = True
-        with futures.ThreadPoolExecutor(self.options.jobs) as pool:
+        with futures.ThreadPoolExecutor(PROCESSORS) as pool:
             list(pool.map(lambda run: self.in_turn(*run), runs[1:]))
             list(pool.map(lambda edit: self.compare(trial, edit), self.sample(trial)))
         self.tell("%s: %d edits in %d runs, %.0f seconds of processor" % (name, len(names), len(runs), trial.seconds))
@@ -188,7 +204,7 @@ def main():
     parser.add_argument("crate", nargs="*", help="the crates whose edits are tried")
     parser.add_argument("--try", action="store_true", dest="is_try", help="try the edits")
     parser.add_argument("--gate", help="what `rt ci` is writing: wait until it has proved a crate")
-    parser.add_argument("--jobs", type=int, default=max(1, len(os.sched_getaffinity(0)) // 2), help="how many runs of the prover at once")
+    parser.add_argument("--jobs", type=int, default=max(1, PROCESSORS // 2), help="how many runs of the prover at once")
     parser.add_argument("--since", metavar="COMMIT", help="try only those that a change since this commit may concern")
     parser.add_argument("--alone", action="store_true", help="try every edit by itself")
     parser.add_argument("--sample", type=int, default=0, metavar="PERCENT", help="try so many of a hundred edits by themselves too")
