@@ -8,8 +8,8 @@ calls. So several edits are tried in one run of the prover, which is asked (`--o
   edit, is in the same run and has to be proved. So no refusal comes from the copying.
 - **Separate.** Other edits are tried in the functions themselves, several in a run if none changes what another's verdict rests on.
 - **Theorems.** All functions that a run does not ask for have a hole as their proof, and the run takes their theorems as they are stated.
-  The gate proves these from nothing. A caller knows their contracts alone, so their bodies are left out too: what the prover makes of
-  them, that of lifetimes above all, took 183 of the 847 seconds of the first run of `demangle_v0_parser`.
+  The gate proves these from nothing. A caller knows their contracts alone, so their bodies are left out too. Before, what is no copy
+  took 197 of the 847 seconds of the first run of `demangle_v0_parser`, most of it for lifetimes in these bodies.
 
 Only a refusal as expected counts there: the first goal that fails in the function is of the clause that the edit names. A goal whose proof
 only names what the edit took away is none. But that may be said in a second line, which `rt must-fail` does not read, so it takes such a
