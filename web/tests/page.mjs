@@ -488,7 +488,7 @@ export async function testPage(kind, check, shots) {
 
   async function files() {
     await open("odd.txt", "");
-    await click("clear");
+    await done();
     await fresh();
     await evaluate(`(() => { const data = new DataTransfer(); data.setData("text/plain", ${JSON.stringify(ODD)}); dispatchEvent(Object.assign(new Event("drop", { cancelable: true }), { dataTransfer: { types: ["Files"], getData: () => ${JSON.stringify(ODD)}, files: [] } })); return 0; })()`);
     await done();
