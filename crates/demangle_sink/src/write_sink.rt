@@ -1,5 +1,5 @@
 //! A sink that writes to a writer.
-ghost use Rattle.std.specs.Prelude.{◌≡◌, Some, false, is_some, refl};
+ghost use Rattle.std.specs.Prelude.{◌≡◌, Some, false, is_some, refl, IfErr, OnOk};
 ghost use Rattle.std.proofs.Common.{◌∙◌};
 ghost use Rattle.demangle_sink.specs.Writer.{writer_of, fault_of, Wrote, Wrote-nothing, Wrote-joined};
 
@@ -34,6 +34,23 @@ impl<'w, W: Write> WriteSink<'w, W> {
     {
         let WriteSink { out: _, fault } = self;
         fault
+    }
+
+    /// Returns `Ok` if the sink has not failed.
+    ///
+    /// # Errors
+    ///
+    /// Returns the writer's error.
+    pub fn into_result(self) -> io::Result<()>
+        ensures ok { OnOk result (⟦<WriteSink<'w, W> as TextSink>⟧.failed self.entry ≡ false) }
+        ensures err { IfErr result (λ fault. Some fault ≡ fault_of self.entry) }
+        ensures written { self.exit.0.now ≡ (writer_of self.entry).now }
+    {
+        let WriteSink { out: _, fault } = self;
+        match fault {
+            Some(fault) => Err(fault),
+            None => Ok(()),
+        }
     }
 }
 

@@ -506,5 +506,11 @@ mod streams {
             sink.into_fault().map(|error| error.kind()),
             Some(ErrorKind::BrokenPipe)
         );
+        let mut sink = WriteSink::new(&mut closed);
+        assert!(demangle("_ZN3foo3barE").write_to(&mut sink, false).is_err());
+        assert_eq!(
+            sink.into_result().unwrap_err().kind(),
+            ErrorKind::BrokenPipe
+        );
     }
 }

@@ -124,7 +124,7 @@ fn a_write_sink_writes_each_piece_once_and_flushes_nothing(rt: HostRuntime) -> R
         let mut writer = CountingWriter::default();
         let mut sink = WriteSink::new(&mut writer);
         assert!(rt; demangle(symbol).write_to(&mut sink, true).is_ok());
-        assert!(rt; sink.into_fault().is_none());
+        assert!(rt; sink.into_result().is_ok());
         assert_eq!(rt; writer.texts, texts, "of {symbol}");
         assert_eq!(rt; writer.bytes, bytes, "of {symbol}");
         assert_eq!(rt; writer.flushes, 0, "of {symbol}");

@@ -25,6 +25,20 @@ impl<'w, W: Write> WriteSink<'w, W> {
         let WriteSink { out: _, fault } = self;
         fault
     }
+
+    /// Returns `Ok` if the sink has not failed.
+    ///
+    /// # Errors
+    ///
+    /// Returns the writer's error.
+    #[cfg(feature = "stream")]
+    pub fn into_result(self) -> io::Result<()> {
+        let WriteSink { out: _, fault } = self;
+        match fault {
+            Some(fault) => Err(fault),
+            None => Ok(()),
+        }
+    }
 }
 
 impl<'w, W: Write> TextSink for WriteSink<'w, W> {

@@ -421,5 +421,8 @@ mod streams {
         assert!(demangle("_ZN3foo3barE").write_to(&mut sink, false).is_err());
         assert_eq!(format!("{sink:?}"), "WriteSink { is_failed: true, .. }");
         assert_eq!(sink.into_fault().map(|error| error.kind()), Some(ErrorKind::BrokenPipe));
+        let mut sink = WriteSink::new(&mut closed);
+        assert!(demangle("_ZN3foo3barE").write_to(&mut sink, false).is_err());
+        assert_eq!(sink.into_result().unwrap_err().kind(), ErrorKind::BrokenPipe);
     }
 }

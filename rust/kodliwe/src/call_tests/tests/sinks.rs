@@ -127,7 +127,7 @@ fn a_write_sink_writes_each_piece_once_and_flushes_nothing() -> Result<(), Fail>
         let mut writer = CountingWriter::default();
         let mut sink = WriteSink::new(&mut writer);
         assert!(demangle(symbol).write_to(&mut sink, true).is_ok());
-        assert!(sink.into_fault().is_none());
+        assert!(sink.into_result().is_ok());
         assert_eq!(writer.texts, texts, "of {symbol}");
         assert_eq!(writer.bytes, bytes, "of {symbol}");
         assert_eq!(writer.flushes, 0, "of {symbol}");
