@@ -1,5 +1,5 @@
 #!/usr/bin/env python3
-"""Measures what the gate takes, crate by crate: bench/gate.py env ONLY=gate,edits tests/run, or another command that runs the prover.
+"""Measures what a command that runs the prover takes, crate by crate: bench/gate.py rt ci. tests/run prints the same of itself.
 
 usage: gate.py [--pid PID] [COMMAND..]
 

@@ -11,13 +11,12 @@ usage: crate.py [STEP..]
   damaged     50,000 damaged symbols, by calls and by both programs, against stored digests
   programs    both programs on the inputs that are stored next to their sources
   filter      tests/filter.py over the program demangle_filter; tests/program.py tries kodliwe itself
-  characters  the table of characters has the same entry for each of 1,114,112 code points as the kit's crate
   interface   the public items and their signatures are those of tests/crate/interface.txt
   recursion   no function of the library or of its programs calls itself, in the machine code of a debug build
   no_std      a static library without std needs at most five functions of C and a 128-bit division
   package     `cargo package` makes the .crate files, with their licences, and builds each from its own
 
-It needs cargo, a C compiler, `nm` and, for `characters`, the Rattle kit. Work is done in out/crate.
+It needs cargo, a C compiler and `nm`. tests/characters.py compares the table of characters with the kit's. Work is done in out/crate.
 """
 
 import filecmp
@@ -212,28 +211,6 @@ def check_filter():
     return said.splitlines()[-1]
 
 
-def letters_of_kit():
-    """Returns what the kit's crate says of each code point, by the program of the repository."""
-    place = os.path.join(ROOT, "crates", "character_tables")
-    run(["rt", "run", "--", "each"], cwd=place, stdin=subprocess.DEVNULL)
-    return run([os.path.join(place, "out", "character_tables"), "each"])
-
-
-def check_characters(rust=RUST):
-    theirs = letters_of_kit()
-    check(len(theirs) == 0x110000 and len(set(theirs)) > 8, f"{len(theirs)} letters of the kit")
-    folder = common.package(
-        "characters",
-        f'[lib]\nname = "unicode"\npath = "{rust}/kodliwe/src/support/unicode/mod.rs"\n\n'
-        f'[[bin]]\nname = "characters"\npath = "{common.HERE}/characters.rs"\n',
-    )
-    cargo(folder, "build", "--release")
-    ours = run([os.path.join(RELEASE, "characters")], stdin=subprocess.DEVNULL)
-    wrong = [at for at, (one, other) in enumerate(zip(ours, theirs)) if one != other]
-    check(len(ours) == len(theirs) and not wrong, f"{len(wrong)} code points, as U+{wrong[:1]}")
-    return f"{len(ours):,} code points are as in the kit's crate"
-
-
 def without_tags(text):
     return " ".join(html.unescape(re.sub(r"<[^>]*>", "", text)).split())
 
@@ -341,7 +318,6 @@ CHECKS = [
     ("damaged", check_damaged),
     ("programs", check_programs),
     ("filter", check_filter),
-    ("characters", check_characters),
     ("interface", check_interface),
     ("recursion", check_recursion),
     ("no_std", check_no_std),

@@ -204,7 +204,7 @@ def main():
     parser.add_argument("crate", nargs="*", help="the crates whose edits are tried")
     parser.add_argument("--try", action="store_true", dest="is_try", help="try the edits")
     parser.add_argument("--gate", help="what `rt ci` is writing: wait until it has proved a crate")
-    parser.add_argument("--jobs", type=int, default=max(1, PROCESSORS // 2), help="how many runs of the prover at once")
+    parser.add_argument("--jobs", type=int, default=max(1, PROCESSORS - 1), help="how many runs of the prover at once")
     parser.add_argument("--since", metavar="COMMIT", help="try only those that a change since this commit may concern")
     parser.add_argument("--alone", action="store_true", help="try every edit by itself")
     parser.add_argument("--sample", type=int, default=0, metavar="PERCENT", help="try so many of a hundred edits by themselves too")

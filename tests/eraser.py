@@ -8,7 +8,7 @@ usage: eraser.py [STEP..]
   source       an error in a repository names the file and the line
   faults       the tests of the crate find mistakes that are planted in the eraser and the template
 
-It needs cargo; the last mistake needs the Rattle kit.
+It needs cargo.
 """
 
 import os
@@ -17,7 +17,6 @@ import shutil
 import subprocess
 import sys
 
-import crate
 import rust_common as common
 from common import ROOT
 from rust_common import OUT, check
@@ -196,12 +195,6 @@ FAULTS = {
         "            return words[0].text in self.names\n",
         "            return True\n",
         build,
-    ),
-    "the table of characters has one run less": (
-        "crates/character_tables/stdout",
-        "28416, ",
-        "",
-        crate.check_characters,
     ),
 }
 

@@ -63,12 +63,14 @@ class Package(NamedTuple):
     has_features: bool = False
 
 
+# The crates of tests, and test_doubles, which they use.
+TESTS_OF_LIBRARY = ("test_doubles", "demangle_vectors", "call_tests", "limit_tests", "filter_tests", "format_tests", "fault_tests")
+TESTS_OF_PROGRAMS = ("test_doubles", "kodliwe_tests", "filter_program_tests")
+
 # A package comes after the one below it.
 PACKAGES = (
-    Package(
-        "kodliwe", ("rustc_demangle",), ("test_doubles", "demangle_vectors", "call_tests", "limit_tests", "filter_tests"), has_features=True
-    ),
-    Package("kodliwe-cli", ("kodliwe", "demangle_filter"), ("test_doubles", "kodliwe_tests"), "kodliwe", "stream"),
+    Package("kodliwe", ("rustc_demangle",), TESTS_OF_LIBRARY, has_features=True),
+    Package("kodliwe-cli", ("kodliwe", "demangle_filter"), TESTS_OF_PROGRAMS, "kodliwe", "stream"),
     Package("rustc-demangle"),
     Package("kodliwe-capi", ("demangle_c",), below="kodliwe"),
 )

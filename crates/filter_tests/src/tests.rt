@@ -2,11 +2,5 @@
 
 mod bytes;
 mod bytes_before;
-mod faults;
-mod formats;
-mod memo;
-mod memory;
-mod repeats;
-mod slices;
 mod stream;
 mod texts;

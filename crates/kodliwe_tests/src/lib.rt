@@ -1,4 +1,4 @@
-//! Tests of what the programs `kodliwe` and `demangle_filter` do.
+//! Tests of what the program `kodliwe` does.
 #![tactic(auto)]
 
 #[cfg(test)]

@@ -14,7 +14,6 @@ use std::test::Fail;
 use streams::{CallsWriter, ChunkReader, WatchedWriter, WatchingReader};
 
 mod calls;
-mod filter;
 mod notes;
 mod streams;
 

@@ -9,6 +9,8 @@ use std::process::ExitCode;
 
 mod demangle_filter;
 mod filter_program;
+#[cfg(test)]
+mod filter_program_tests;
 mod kodliwe;
 mod kodliwe_program;
 #[cfg(test)]

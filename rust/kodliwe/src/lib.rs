@@ -60,8 +60,12 @@ mod demangle_value;
 #[cfg(all(test, feature = "stream"))]
 mod demangle_vectors;
 #[cfg(all(test, feature = "stream"))]
+mod fault_tests;
+#[cfg(all(test, feature = "stream"))]
 mod filter_tests;
 mod format;
+#[cfg(all(test, feature = "stream"))]
+mod format_tests;
 #[doc(hidden)]
 pub mod internal;
 #[cfg(all(test, feature = "stream"))]

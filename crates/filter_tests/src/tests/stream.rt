@@ -169,11 +169,11 @@ pub(super) const LINE: &[u8] = b"_ZN3fooE.llvm moocow \
 
 /// The writes for `LINE` in three parts. Only the plain form has the disambiguator. The line feed
 /// is the last write.
-pub(super) const HEAD: [&[u8]; 5] = [b"foo", b".llvm", b" moocow ", b"<", b"mio"];
+const HEAD: [&[u8]; 5] = [b"foo", b".llvm", b" moocow ", b"<", b"mio"];
 
 const DISAMBIGUATOR: [&[u8]; 3] = [b"[", b"1888792e1a78739", b"]"];
 
-pub(super) const TAIL: [&[u8]; 17] = [
+const TAIL: [&[u8]; 17] = [
     b"::",
     b"sys",
     b"::",

@@ -1,4 +1,4 @@
 // Made from crates/kodliwe_tests/src/lib.rt by packaging/crate/erase.py: edit that file instead.
-//! Tests of what the programs `kodliwe` and `demangle_filter` do.
+//! Tests of what the program `kodliwe` does.
 #[cfg(test)]
 mod tests;

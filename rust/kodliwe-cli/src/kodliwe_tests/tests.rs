@@ -20,7 +20,6 @@ use std::io::{ErrorKind, Read, Write};
 use streams::{CallsWriter, ChunkReader, WatchedWriter, WatchingReader};
 
 mod calls;
-mod filter;
 mod notes;
 mod streams;
 

@@ -3,10 +3,5 @@
 
 mod bytes;
 mod bytes_before;
-mod faults;
-mod formats;
-mod memo;
-mod repeats;
-mod slices;
 mod stream;
 mod texts;

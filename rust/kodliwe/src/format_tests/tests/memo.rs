@@ -1,4 +1,4 @@
-// Made from crates/filter_tests/src/tests/memo.rt by packaging/crate/erase.py: edit that file instead.
+// Made from crates/format_tests/src/tests/memo.rt by packaging/crate/erase.py: edit that file instead.
 //! Tests a memo with keys that share a hash, long keys and full memory.
 
 use crate::support::rt::HostRuntime;

@@ -1,4 +1,4 @@
-// Made from crates/kodliwe_tests/src/tests/filter/streams.rt by packaging/crate/erase.py: edit that file instead.
+// Made from crates/filter_program_tests/src/tests/streams.rt by packaging/crate/erase.py: edit that file instead.
 //! Readers and writers that check the times of writes and flushes.
 use crate::support::vec::Vec;
 use crate::test_doubles::streams::ChunkReader;

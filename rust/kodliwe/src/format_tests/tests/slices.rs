@@ -1,4 +1,4 @@
-// Made from crates/filter_tests/src/tests/slices.rt by packaging/crate/erase.py: edit that file instead.
+// Made from crates/format_tests/src/tests/slices.rt by packaging/crate/erase.py: edit that file instead.
 //! Tests of v0 runs, in memory and by a filter, which prints them before they are known to be
 //! symbols. The expected texts are those of the Rust crate.
 use crate::rustc_demangle::sink::WriteSink;

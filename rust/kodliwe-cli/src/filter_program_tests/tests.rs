@@ -1,4 +1,4 @@
-// Made from crates/kodliwe_tests/src/tests/filter.rt by packaging/crate/erase.py: edit that file instead.
+// Made from crates/filter_program_tests/src/tests.rt by packaging/crate/erase.py: edit that file instead.
 //! Tests of what `demangle_filter` does itself: its arguments, statuses and texts, and the times of
 //! its flushes. The library's tests cover the demangled output.
 use crate::filter_program::filter::filter_run;

@@ -1,4 +1,4 @@
-// Made from crates/filter_tests/src/tests/repeats.rt by packaging/crate/erase.py: edit that file instead.
+// Made from crates/format_tests/src/tests/repeats.rt by packaging/crate/erase.py: edit that file instead.
 //! Tests of repeated symbols, with chunks of all sizes and several limits.
 use crate::rustc_demangle::{BytesFilter, SymbolMemo, demangle_bytes_limited};
 use crate::support::alloc::{AllocError, Global};

@@ -1,4 +1,4 @@
-// Made from crates/filter_tests/src/tests/formats.rt by packaging/crate/erase.py: edit that file instead.
+// Made from crates/format_tests/src/tests/formats.rt by packaging/crate/erase.py: edit that file instead.
 //! Tests of texts that are filtered in a format: folded, and with a limit of the bytes that are read
 //! again.
 use super::repeats::repeated;

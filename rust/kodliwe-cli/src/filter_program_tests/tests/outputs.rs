@@ -1,4 +1,4 @@
-// Made from crates/kodliwe_tests/src/tests/filter/outputs.rt by packaging/crate/erase.py: edit that file instead.
+// Made from crates/filter_program_tests/src/tests/outputs.rt by packaging/crate/erase.py: edit that file instead.
 //! Tests of the output's buffer, with a writer that takes a part of a write or fails once.
 use super::{WRITE_FAILED, assert_failed, run_pausing};
 use crate::filter_program::flushing::FlushingOutput;

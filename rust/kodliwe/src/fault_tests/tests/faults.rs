@@ -1,4 +1,4 @@
-// Made from crates/filter_tests/src/tests/faults.rt by packaging/crate/erase.py: edit that file instead.
+// Made from crates/fault_tests/src/tests/faults.rt by packaging/crate/erase.py: edit that file instead.
 //! Tests of errors of readers and writers. The caller gets their kind and text, and nothing is
 //! written after one.
 use crate::rustc_demangle::sink::{TextSink, WriteSink};

@@ -1,0 +1,4 @@
+//! Tests of readers, writers and heaps that fail.
+
+mod faults;
+mod memory;

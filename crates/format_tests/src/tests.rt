@@ -1,0 +1,6 @@
+//! Tests of formats, of symbols that repeat, and of the memo that stores their texts.
+
+mod formats;
+mod memo;
+mod repeats;
+mod slices;
