@@ -10,7 +10,7 @@ grammar. The calls are these:
   rust     try_demangle, Display, demangle_text, demangle_slice and BytesFilter, plain and folded, of the Rust crate
   c        the calls of the archive that read a symbol or a text, as `make` builds it (proved) and as `make KIT=none` does (tested)
   program  kodliwe, plain and with --fold, over its standard input, as `make` builds it (proved) and as cargo does; with --limit 0
-           an argument whose path has 2^18 parts; and symbols that are several writes, which it takes PIECES_TIMES of BytesFilter for
+           an argument whose path has 2^18 parts; and symbols that are short writes, which it takes PIECES_TIMES of BytesFilter for
   linear   kodliwe, also with --hash, and the archive's calls of texts, plain and folded, with no limit, over texts whose time and output
            are linear only by the limits that hold then: for each byte at most LINEAR_RATE instructions and OUTPUT bytes, for a double
            LINEAR_GROWTH times the instructions
@@ -83,7 +83,7 @@ FIRST = {
     "BytesFilter": [("v0", 64, 384, 0.92), ("legacy", 64, 384, 1.13)],
     "BytesFilter folded": [("v0", 64, 384, 0.92), ("v0", 385, 768, 0.92)],
 }
-# The most that the program takes for symbols that are several writes each, in what BytesFilter takes.
+# The most that the program takes for symbols that are short writes, in what BytesFilter takes.
 PIECES_TIMES = 1.6
 # How many times the instructions of the published crate are those of a call that copies, at least.
 COPIED_TIMES = 10
@@ -293,7 +293,7 @@ def program_call(program, *words):
 
 
 def pieces(program):
-    """Compares the program, which holds short pieces before it writes them, with BytesFilter over symbols that are several writes each."""
+    """Compares the program, which holds short pieces before it writes them, with BytesFilter over symbols that are short writes."""
     text = b"_ZN3fooE.a " * 1500
     ((ours, size),) = program_measure([built(program), "--hash"])([text])
     ((filters, filters_size),) = measured(rust_driver(), "BytesFilter", [text])

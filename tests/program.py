@@ -693,8 +693,9 @@ def run_refusing(first, last, words, text):
     return (*found, {name: read("refusing/" + name) for name in os.listdir("refusing")}), *map(int, read("count").split())
 
 
-# The size of the allocation of a memo's fingerprints. A run in which it fails is complete: it only finds no symbol again.
-MEMO_MARKS = 4 * 8192
+# The sizes of a memo's allocations: of its fingerprints, and of its buffer as it grows. A run in which one fails is complete: it finds no
+# symbol again, or writes a symbol in parts.
+MEMO_SIZES = {4 * 8192, 1_024_000, *(4096 << step for step in range(7))}
 
 
 def requests():
@@ -724,7 +725,7 @@ def requests():
             unharmed = 0
             for number in range(1, count + 1):
                 found, _, size = run_refusing(number, ends(number), words, text)
-                unharmed += found == whole and size != MEMO_MARKS
+                unharmed += found == whole and size not in MEMO_SIZES
                 assert found == whole or (
                     whole[0].startswith(found[0]) and found[1:3] in refused and found[3] == {"in": b"_ZN1bE\n", "out": b"old"}
                 ), "%r, request %d: %.300r" % (words, number, found)

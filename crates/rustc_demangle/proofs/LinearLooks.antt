@@ -39,11 +39,11 @@ paid_all format all rest first mid p = λ e. omega (arith, p e)
 pub run_linear : (format : Format) (n : ℕ) (old new : RunLooks) → 0 < n → new.accepting_looks ≤ old.accepting_looks + 213 * (n + 1) → PrintsLinear format 3 n old.printing_looks new.printing_looks → LooksLinear format n old new
 run_linear format n old new some most prints = λ e. omega (arith, some, most, prints e)
 
+pub prints_again : (format : Format) (n old mid new : ℕ) → PrintsLinear format 1 n old mid → PrintsLinear format 1 n mid new → PrintsLinear format 2 n old new
+prints_again format n old mid new p q = λ e. omega (arith, p e, q e)
+
 pub prints_once : (format : Format) (n old new : ℕ) → PrintsLinear format 1 n old new → PrintsLinear format 3 n old new
 prints_once format n old new p = λ e. omega (arith, p e)
-
-pub prints_twice : (format : Format) (n old new : ℕ) → PrintsLinear format 2 n old new → PrintsLinear format 3 n old new
-prints_twice format n old new p = λ e. omega (arith, p e)
 
 -- Steps of a filter.
 

@@ -1,5 +1,5 @@
 -- A run that begins with `_R` and a byte that begins no path is no symbol.
-use Rattle.std.proofs.Common.{◌≡◌, ℕ, ◌+◌, ◌<◌, ◌≤◌, ◌⊎◌, inl, inr, ◌&&◌, ◌||◌, Bool, true, false, eqb, eqb-true, cond, List, [], ◌∷◌, ◌++◌, length, get_or, slice_index_or, Option, Some, refl, sym, ap, subst, ◌∙◌, arith, append_assoc, codes}
+use Rattle.std.proofs.Common.{◌≡◌, ℕ, ◌<◌, ◌≤◌, ◌⊎◌, inl, inr, ◌&&◌, ◌||◌, Bool, true, false, eqb, eqb-true, cond, List, [], ◌∷◌, ◌++◌, length, get_or, slice_index_or, Option, Some, refl, sym, ap, subst, ◌∙◌, arith, append_assoc, codes}
 use Rattle.std.proofs.lemmas.Bool.{true≢false}
 use Rattle.demangle_symbol.specs.Primitives.{byte_at, some_or}
 use Rattle.demangle_v0_grammar.specs.Items.{Items, invalid}

@@ -44,3 +44,4 @@ pub use Rattle.demangle_v0_grammar.specs.ValidationLooks
 -- Internal.
 pub mod PutsText
 pub mod Credit
+pub mod PrintedRuns

@@ -132,14 +132,21 @@ fn a_repeated_symbol_is_one_write() {
 }
 
 #[test]
-fn a_legacy_symbol_with_a_hash_is_one_write() {
+fn a_legacy_symbol_is_one_write() {
+    let long = format!("_ZN{}E", "9functions".repeat(300));
+    let long_path = vec!["functions"; 300].join("::");
+    let rows = [
+        (LEGACY, LEGACY_PATH),
+        ("_ZN9functions4nameE", "functions::name"),
+        ("_ZN1a1bE", "a::b"),
+        (&long, &long_path),
+    ];
     let mut filter = Watched::new();
-    for _ in 0..3 {
-        assert_eq!(written(&mut filter, LEGACY, LEGACY_PATH).writes, 1);
-    }
-    for _ in 0..3 {
-        let name = written(&mut filter, "_ZN9functions4nameE", "functions::name");
-        assert_eq!(name.writes, 3);
+    for (symbol, path) in rows {
+        for _ in 0..3 {
+            let writes = written(&mut filter, symbol, path).writes;
+            assert_eq!(writes, 1, "{symbol}");
+        }
     }
 }
 
@@ -304,20 +311,32 @@ fn a_filter_reads_another_input_after_its_end() {
     assert_eq!(output, b"xa::b_a::b\n");
 }
 
-#[test]
-fn symbols_of_any_length_are_remembered_beside_one_another() {
-    for len in [1, 5, 9, 13, 19, 40, 100] {
-        let (mut filter, mut remembered) = (Watched::new(), 0);
-        for turn in 0..3 {
-            for number in 0..100 {
-                let path = format!("crate_{number:02}::{}", "x".repeat(len));
-                let symbol = format!("_RNvC8crate_{number:02}{len}{}", "x".repeat(len));
-                let is_remembered = written(&mut filter, &symbol, &path).is_remembered;
-                remembered += usize::from(turn == 2 && is_remembered);
-            }
+/// Filters a hundred symbols, whose last name has so many bytes, three times. Returns the length of
+/// a symbol, and how many were remembered the third time.
+fn remembered_of_length(len: usize) -> (usize, usize) {
+    let (mut filter, mut remembered, mut symbol_len) = (Watched::new(), 0, 0);
+    for turn in 0..3 {
+        for number in 0..100 {
+            let path = format!("crate_{number:02}::{}", "x".repeat(len));
+            let symbol = format!("_RNvC8crate_{number:02}{len}{}", "x".repeat(len));
+            let is_remembered = written(&mut filter, &symbol, &path).is_remembered;
+            remembered += usize::from(turn == 2 && is_remembered);
+            symbol_len = symbol.len();
         }
+    }
+    (symbol_len, remembered)
+}
+
+#[test]
+fn symbols_of_at_least_20_bytes_are_remembered_beside_one_another() {
+    for len in [5, 9, 13, 19, 40, 100] {
+        let (symbol_len, remembered) = remembered_of_length(len);
         // Two of them may share a slot of the memo.
-        assert!(remembered >= 95, "{len}: {remembered}");
+        assert!(symbol_len >= 20 && remembered >= 95, "{len}: {remembered}");
+    }
+    for len in [1, 4] {
+        let (symbol_len, remembered) = remembered_of_length(len);
+        assert!(symbol_len < 20 && remembered == 0, "{len}: {remembered}");
     }
 }
 

@@ -3,7 +3,6 @@ ghost use Rattle.std.specs.Prelude.{◌≡◌, ◌+◌, ◌*◌, ◌≤◌, leng
 ghost use Rattle.std.specs.Io.KnownBytes.{Appends};
 ghost use Rattle.std.specs.List.{concat, list_all};
 ghost use Rattle.demangle_value.specs.Filtered.{filtered, is_run_byte, replacement_in};
-ghost use Rattle.demangle_value.specs.Stripped.{stripped};
 ghost use Rattle.rustc_demangle.specs.LinearLooks.{LooksGrow};
 ghost use Rattle.demangle_value.specs.LinearPrinting.{PrintsLinear};
 ghost use Rattle.demangle_value.specs.Symbols.{PrintingLooksIn, handed_in};
@@ -17,30 +16,9 @@ use demangle_value::value::{Demangle, has_style, read_run};
 use std::io;
 use std::io::Write;
 
-/// Writes a symbol, with a separate write for each piece, and counts its looks. Fails if the writer
-/// fails.
-fn write_symbol<W: Write>(
-    symbol: &Demangle<'_>,
-    output: &mut W,
-    format: Format,
-    looks: &mut Looks,
-) -> io::Result<()>
-    ensures text { OnOk result (Appends (W.contents output.old) (W.contents output.new)
-        (concat (handed_in symbol.now format))) }
-    ensures looks { PrintingLooksIn symbol.now format looks.old looks.new }
-{
-    let mut sink = WriteSink::new(output);
-    // If it fails, the sink holds the writer's error.
-    let _ = symbol.write_formatted_counted(&mut sink, format, looks);
-    match sink.into_fault() {
-        Some(error) => Err(error),
-        None => Ok(()),
-    }
-}
-
 /// Writes a symbol, by one call of the writer if its text has up to 2,048 bytes, and counts its
 /// looks. A longer text is written in parts. Fails if the writer fails.
-fn write_symbol_at_once<W: Write>(
+fn write_symbol<W: Write>(
     symbol: &Demangle<'_>,
     output: &mut W,
     format: Format,
@@ -59,58 +37,9 @@ fn write_symbol_at_once<W: Write>(
     }
 }
 
-/// Writes a run that is not a symbol, by one call of the writer. Fails if the writer fails.
-fn write_text<W: Write>(text: &str, output: &mut W) -> io::Result<()>
-    ensures { OnOk result (Appends (W.contents output.old) (W.contents output.new) text.now) }
-{
-    output.write_all(text.as_bytes())
-}
-
-/// Writes the replacement of a run that was read as this: the printed symbol, or the run itself
-/// if it is not a symbol. Either is one call of the writer if it has up to 2,048 bytes. Counts
-/// the looks of printing. Fails if the writer fails.
-fn write_read_at_once<W: Write>(
-    symbol: &Demangle<'_>,
-    run: &str,
-    output: &mut W,
-    format: Format,
-    looks: &mut Looks,
-) -> io::Result<()>
-    requires { symbol.now ≡ stripped run.now }
-    ensures text { OnOk result (Appends (W.contents output.old) (W.contents output.new)
-        (replacement_in format run.now)) }
-    ensures grows { looks.old ≤ looks.new }
-    ensures prints { PrintsLinear format 1 (length run.now) looks.old looks.new }
-{
-    if has_style(symbol) {
-        write_symbol_at_once(symbol, output, format, looks)
-    } else {
-        write_text(run, output)
-    }
-}
-
-/// Writes the replacement of a run, as `write_read_at_once` does, and counts its looks. Fails if
-/// the writer fails.
-pub(super) fn write_run_at_once<W: Write>(
-    run: &str,
-    output: &mut W,
-    format: Format,
-    looks: &mut RunLooks,
-) -> io::Result<()>
-    requires { list_all is_run_byte run.now ≡ true }
-    ensures text { OnOk result (Appends (W.contents output.old) (W.contents output.new)
-        (replacement_in format run.now)) }
-    ensures grows { LooksGrow looks.old looks.new }
-    ensures most { looks.new.accepting_looks ≤ looks.old.accepting_looks + 61 * (length run.now + 1) }
-    ensures prints { PrintsLinear format 1 (length run.now) looks.old.printing_looks
-        looks.new.printing_looks }
-{
-    let symbol = read_run(run, &mut looks.accepting_looks);
-    write_read_at_once(&symbol, run, output, format, &mut looks.printing_looks)
-}
-
-/// Writes the replacement of a run: the printed symbol, with a write for each piece, or the run
-/// itself if it is not a symbol. Counts its looks. Fails if the writer fails.
+/// Writes the replacement of a run: the printed symbol, or the run itself if it is not a symbol.
+/// Either is one call of the writer if it has up to 2,048 bytes. Counts its looks. Fails if the
+/// writer fails.
 pub(super) fn write_run<W: Write>(
     run: &str,
     output: &mut W,
@@ -129,7 +58,7 @@ pub(super) fn write_run<W: Write>(
     if has_style(&symbol) {
         write_symbol(&symbol, output, format, &mut looks.printing_looks)
     } else {
-        write_text(run, output)
+        output.write_all(run.as_bytes())
     }
 }
 
@@ -146,8 +75,5 @@ pub(super) fn demangle_line<W: Write>(
     let mut sink = WriteSink::new(output);
     // If it fails, the sink holds the writer's error.
     let _ = demangle_text(line, &mut sink, include_hash);
-    match sink.into_fault() {
-        Some(error) => Err(error),
-        None => Ok(()),
-    }
+    sink.into_result()
 }

@@ -4,6 +4,7 @@ ghost use Rattle.std.specs.List.{concat, list_all};
 ghost use Rattle.std.specs.Io.KnownBytes.{Appends};
 ghost use Rattle.demangle_value.specs.Filtered.{is_run_byte, replacement_in};
 ghost use Rattle.rustc_demangle.specs.LinearLooks.{LooksGrow, LooksLinear};
+ghost use Rattle.rustc_demangle.specs.PrintedRuns.{IsPrinted};
 ghost use Rattle.demangle_value.specs.LinearPrinting.{PrintsLinear};
 ghost use Rattle.demangle_value.specs.Stripped.{stripped};
 ghost use Rattle.demangle_value.specs.Symbols.{PrintingLooksIn, bounded_within, handed_in};
@@ -12,7 +13,7 @@ ghost use Rattle.text_memo.specs.Memo.{Remembers, IsSmall};
 
 use crate::stream::buffer_sink::BufferSink;
 use crate::stream::credit::{Credit, starts_as_v0};
-use crate::stream::line_writer::{write_run, write_run_at_once};
+use crate::stream::line_writer::write_run;
 use demangle_symbol::cursor::{Looks, RunLooks};
 use demangle_value::format::{Format, MAX_SIZE, SizeLimit, TextFormat, unfolded_form};
 use demangle_value::value::printing::{Tried, print_legacy_run, print_v0_run};
@@ -76,10 +77,11 @@ impl Probe {
     }
 }
 
-/// The texts that are remembered, the last one that was printed for them, and whether runs are
-/// printed first.
+/// The texts that are remembered, the last one that was printed, the format of all, and whether runs
+/// are printed first.
 #[derive(Drop)]
 struct Store {
+    format: Format,
     texts: TextMemo,
     printed: GrowingBuffer,
     credit: Credit,
@@ -95,7 +97,6 @@ struct Store {
 #[derive(Drop)]
 pub struct SymbolMemo {
     alloc: Global,
-    format: Format,
     store: Store,
     probe: Probe,
 }
@@ -107,9 +108,9 @@ impl Model for SymbolMemo {
 
     ghost Value = { Format };
 
-    ghost view = { λ memo. memo.format };
+    ghost view = { λ memo. memo.store.format };
 
-    ghost invariant = { λ memo. Remembers (replacement_in memo.format) memo.store.texts
+    ghost invariant = { λ memo. Remembers (replacement_in memo.store.format) memo.store.texts
         × IsSmall memo.store.texts };
 }
 
@@ -193,40 +194,42 @@ fn is_looked_up(run: &[u8]) -> bool
 }
 
 impl Store {
-    /// Prints a run into the buffer if it is not too long and runs are printed first. Otherwise it
-    /// reads the run. Counts its looks: the bound of those that decide whether it is a symbol is
-    /// linear in its length. Returns what the run was read as, or `None` if it was printed.
+    /// Prints a run into the buffer before it is known to be a symbol, if `is_first`, the run is not
+    /// too long, and runs are printed first. Otherwise, or if that was in vain, it reads the run.
+    /// Counts its looks: the bound of those that decide whether the run is a symbol is linear in its
+    /// length. Returns what the run was read as, or `None` if it was printed.
     #[inline(always)]
     fn print_or_read<'a>(
         &mut self,
         run: &'a str,
-        format: Format,
+        is_first: bool,
         looks: &mut RunLooks,
     ) -> Option<Demangle<'a>>
         requires run { list_all is_run_byte run.now ≡ true }
-        requires some { 1 < length run.now }
-        ensures printed { IfNone result (self.new.printed ≡ replacement_in format run.now) }
+        requires some { is_first ≡ true → 1 < length run.now }
+        ensures printed { IfNone result (self.new.printed ≡ replacement_in self.old.format run.now) }
         ensures read { IfSome result (λ symbol. symbol ≡ stripped run.now) }
         ensures texts { self.new.texts ≡ self.old.texts }
+        ensures format { self.new.format ≡ self.old.format }
         ensures grows { LooksGrow looks.old looks.new }
         ensures most { looks.new.accepting_looks
             ≤ looks.old.accepting_looks + 152 * (length run.now + 1) }
-        ensures prints { PrintsLinear format 1 (length run.now) looks.old.printing_looks
+        ensures prints { PrintsLinear self.old.format 1 (length run.now) looks.old.printing_looks
             looks.new.printing_looks }
     {
-        let most = if format.form.fold_arguments {
+        let most = if self.format.form.fold_arguments {
             MOST_FOLDED
         } else {
             MOST_PRINTED
         };
-        if run.len() > most || !self.credit.is_given() {
+        if !is_first || run.len() > most || !self.credit.is_given() {
             let symbol = read_run(run, &mut looks.accepting_looks);
-            if has_style(&symbol) {
+            if is_first && has_style(&symbol) {
                 self.credit.gain();
             }
             return Some(symbol);
         }
-        let (tried, fuel) = print_first(run, &mut self.printed, format, looks);
+        let (tried, fuel) = print_first(run, &mut self.printed, self.format, looks);
         let symbol = match tried {
             Tried::Printed => {
                 self.credit.gain();
@@ -239,80 +242,54 @@ impl Store {
         Some(symbol)
     }
 
-    /// Prints into the buffer a run that was read. Counts the looks of printing. If the path may have
-    /// over 1,000,000 bytes, it prints nothing, so that nothing is printed in vain.
-    fn print_read(
-        &mut self,
-        symbol: &Demangle<'_>,
-        run: &str,
-        format: Format,
-        looks: &mut Looks,
-    ) -> Printed
-        requires read { symbol.now ≡ stripped run.now }
-        ensures symbol { result ≡ Printed.Symbol →
-            self.new.printed ≡ replacement_in format run.now }
-        ensures no_symbol { result ≡ Printed.NoSymbol →
-            run.now ≡ replacement_in format run.now }
+    /// Prints a run into the buffer, as `print_or_read` does, or after that has read it. Counts its
+    /// looks. If the path of a run that was read may have over 1,000,000 bytes, it prints nothing, so
+    /// that nothing is printed in vain.
+    #[inline(always)]
+    fn print(&mut self, run: &str, is_first: bool, looks: &mut RunLooks) -> Printed
+        requires run { list_all is_run_byte run.now ≡ true }
+        requires some { is_first ≡ true → 1 < length run.now }
+        ensures text { IsPrinted self.old.format run.now result self.new.printed }
         ensures texts { self.new.texts ≡ self.old.texts }
-        ensures grows { looks.old ≤ looks.new }
-        ensures prints { PrintsLinear format 1 (length run.now) looks.old looks.new }
+        ensures format { self.new.format ≡ self.old.format }
+        ensures grows { LooksGrow looks.old looks.new }
+        ensures most { looks.new.accepting_looks
+            ≤ looks.old.accepting_looks + 152 * (length run.now + 1) }
+        ensures prints { PrintsLinear self.old.format 2 (length run.now) looks.old.printing_looks
+            looks.new.printing_looks }
     {
-        if !has_style(symbol) {
+        let Some(symbol) = self.print_or_read(run, is_first, looks) else {
+            return Printed::Symbol;
+        };
+        if !has_style(&symbol) {
             return Printed::NoSymbol;
         }
-        if TextFormat::for_text(format, run.len()).limit > MAX_SIZE {
+        if TextFormat::for_text(self.format, run.len()).limit > MAX_SIZE {
             return Printed::NotHeld;
         }
         self.printed.clear();
-        if print_to_buffer(symbol, &mut self.printed, format, looks) {
+        if print_to_buffer(
+            &symbol,
+            &mut self.printed,
+            self.format,
+            &mut looks.printing_looks,
+        ) {
             Printed::Symbol
         } else {
             Printed::NotHeld
         }
     }
 
-    /// Prints a run into the buffer. Counts its looks: the bound of those that decide whether it is a
-    /// symbol is linear in its length.
-    #[inline(always)]
-    fn print_run(&mut self, run: &str, format: Format, looks: &mut RunLooks) -> Printed
-        requires run { list_all is_run_byte run.now ≡ true }
-        requires some { 1 < length run.now }
-        ensures symbol { result ≡ Printed.Symbol →
-            self.new.printed ≡ replacement_in format run.now }
-        ensures no_symbol { result ≡ Printed.NoSymbol →
-            run.now ≡ replacement_in format run.now }
-        ensures texts { self.new.texts ≡ self.old.texts }
-        ensures grows { LooksGrow looks.old looks.new }
-        ensures most { looks.new.accepting_looks
-            ≤ looks.old.accepting_looks + 152 * (length run.now + 1) }
-        ensures prints { PrintsLinear format 2 (length run.now) looks.old.printing_looks
-            looks.new.printing_looks }
-    {
-        match self.print_or_read(run, format, looks) {
-            Some(symbol) => self.print_read(&symbol, run, format, &mut looks.printing_looks),
-            None => Printed::Symbol,
-        }
-    }
-
-    /// Prints a run as `print_run` does, and remembers its text, or that it is too long for that.
+    /// Remembers the text of a run that was printed so, or that it is too long for that.
     #[inline(never)]
-    fn print_new(&mut self, run: &str, hash: u64, format: Format, looks: &mut RunLooks) -> Printed
-        requires run { list_all is_run_byte run.now ≡ true }
-        requires some { 1 < length run.now }
-        requires remembers { Remembers (replacement_in format) self.old.texts }
-        ensures symbol { result ≡ Printed.Symbol →
-            self.new.printed ≡ replacement_in format run.now }
-        ensures no_symbol { result ≡ Printed.NoSymbol →
-            run.now ≡ replacement_in format run.now }
-        ensures remembers { Remembers (replacement_in format) self.new.texts }
+    fn remember(&mut self, run: &str, hash: u64, printed: Printed)
+        requires printed { IsPrinted self.old.format run.now printed self.old.printed }
+        requires remembers { Remembers (replacement_in self.old.format) self.old.texts }
+        ensures remembers { Remembers (replacement_in self.old.format) self.new.texts }
         ensures small { IsSmall self.old.texts → IsSmall self.new.texts }
-        ensures grows { LooksGrow looks.old looks.new }
-        ensures most { looks.new.accepting_looks
-            ≤ looks.old.accepting_looks + 152 * (length run.now + 1) }
-        ensures prints { PrintsLinear format 2 (length run.now) looks.old.printing_looks
-            looks.new.printing_looks }
+        ensures printed { self.new.printed ≡ self.old.printed }
+        ensures format { self.new.format ≡ self.old.format }
     {
-        let printed = self.print_run(run, format, looks);
         let key = run.as_bytes();
         match printed {
             Printed::Symbol if self.printed.len() > MAX_TEXT => self.texts.note_too_long(hash),
@@ -320,44 +297,31 @@ impl Store {
             Printed::NoSymbol => self.texts.insert(key, key, hash),
             Printed::NotHeld => self.texts.note_too_long(hash),
         }
-        printed
     }
 
-    /// Prints a run that is not in the memo, as `print_run` does. Its text is remembered if the run
-    /// came before. `hash` is the run's, or `None` if the memo is off.
+    /// Writes the replacement of a run that was printed so, by one call of the writer if the buffer
+    /// holds it. Counts its looks. Fails if the writer fails.
     #[inline(always)]
-    fn print_not_in_memo(
-        &mut self,
+    fn write<W: Write>(
+        &self,
         run: &str,
-        hash: Option<u64>,
-        format: Format,
+        printed: Printed,
+        output: &mut W,
         looks: &mut RunLooks,
-    ) -> Printed
+    ) -> io::Result<()>
         requires run { list_all is_run_byte run.now ≡ true }
-        requires some { 1 < length run.now }
-        requires remembers { Remembers (replacement_in format) self.old.texts }
-        ensures symbol { result ≡ Printed.Symbol →
-            self.new.printed ≡ replacement_in format run.now }
-        ensures no_symbol { result ≡ Printed.NoSymbol →
-            run.now ≡ replacement_in format run.now }
-        ensures remembers { Remembers (replacement_in format) self.new.texts }
-        ensures small { IsSmall self.old.texts → IsSmall self.new.texts }
+        requires printed { IsPrinted self.now.format run.now printed self.now.printed }
+        ensures text { OnOk result (Appends (W.contents output.old) (W.contents output.new)
+            (replacement_in self.now.format run.now)) }
         ensures grows { LooksGrow looks.old looks.new }
-        ensures most { looks.new.accepting_looks
-            ≤ looks.old.accepting_looks + 152 * (length run.now + 1) }
-        ensures prints { PrintsLinear format 2 (length run.now) looks.old.printing_looks
+        ensures most { looks.new.accepting_looks ≤ looks.old.accepting_looks + 61 * (length run.now + 1) }
+        ensures prints { PrintsLinear self.now.format 1 (length run.now) looks.old.printing_looks
             looks.new.printing_looks }
     {
-        let Some(hash) = hash else {
-            return self.print_run(run, format, looks);
-        };
-        match self.texts.note(hash) {
-            Noted::New => self.print_run(run, format, looks),
-            Noted::Again => self.print_new(run, hash, format, looks),
-            Noted::TooLong => {
-                let symbol = read_run(run, &mut looks.accepting_looks);
-                self.print_read(&symbol, run, format, &mut looks.printing_looks)
-            }
+        match printed {
+            Printed::Symbol => output.write_all(self.printed.as_slice()),
+            Printed::NoSymbol => output.write_all(run.as_bytes()),
+            Printed::NotHeld => write_run(run, output, self.format, looks),
         }
     }
 }
@@ -379,8 +343,8 @@ impl SymbolMemo {
     {
         SymbolMemo {
             alloc,
-            format,
             store: Store {
+                format,
                 texts: TextMemo::new(alloc),
                 printed: GrowingBuffer::new(alloc),
                 credit: Credit::new(),
@@ -396,7 +360,7 @@ impl SymbolMemo {
     pub fn format(&self) -> Format
         ensures { result ≡ self.now }
     {
-        self.format
+        self.store.format
     }
 
     /// Returns the allocator of the memo.
@@ -410,58 +374,6 @@ impl SymbolMemo {
         ensures { result ≤ 5_500_000 }
     {
         self.store.texts.allocated() + self.store.printed.allocated()
-    }
-
-    /// Writes the text of a run that is not in the memo, by one call of the writer if the buffer holds
-    /// it. Counts its looks. The text is remembered if the run came before. `hash` is the run's, or
-    /// `None` if the memo is off. Fails if the writer fails.
-    #[inline(always)]
-    fn write_new<W: Write>(
-        &mut self,
-        run: &str,
-        hash: Option<u64>,
-        output: &mut W,
-        looks: &mut RunLooks,
-    ) -> io::Result<()>
-        requires all { list_all is_run_byte run.now ≡ true }
-        requires some { 1 < length run.now }
-        ensures text { OnOk result (Appends (W.contents output.old) (W.contents output.new)
-            (replacement_in self.old run.now)) }
-        ensures same { self.new ≡ self.old }
-        ensures grows { LooksGrow looks.old looks.new }
-        ensures most { looks.new.accepting_looks
-            ≤ looks.old.accepting_looks + 213 * (length run.now + 1) }
-        ensures prints { PrintsLinear self.old 3 (length run.now) looks.old.printing_looks
-            looks.new.printing_looks }
-    {
-        match self.store.print_not_in_memo(run, hash, self.format, looks) {
-            Printed::Symbol => output.write_all(self.store.printed.as_slice()),
-            Printed::NoSymbol => output.write_all(run.as_bytes()),
-            Printed::NotHeld => write_run_at_once(run, output, self.format, looks),
-        }
-    }
-
-    /// Writes the replacement of a run that is too long for the memo, as `write_new` does. The buffer
-    /// can copy parts of its text.
-    #[inline(never)]
-    fn write_long<W: Write>(
-        &mut self,
-        run: &str,
-        output: &mut W,
-        looks: &mut RunLooks,
-    ) -> io::Result<()>
-        requires all { list_all is_run_byte run.now ≡ true }
-        requires some { 1 < length run.now }
-        ensures text { OnOk result (Appends (W.contents output.old) (W.contents output.new)
-            (replacement_in self.old run.now)) }
-        ensures same { self.new ≡ self.old }
-        ensures grows { LooksGrow looks.old looks.new }
-        ensures most { looks.new.accepting_looks
-            ≤ looks.old.accepting_looks + 213 * (length run.now + 1) }
-        ensures prints { PrintsLinear self.old 3 (length run.now) looks.old.printing_looks
-            looks.new.printing_looks }
-    {
-        self.write_new(run, None, output, looks)
     }
 
     /// Writes the replacement of a run: the printed symbol, or the run itself if it is not a
@@ -483,14 +395,10 @@ impl SymbolMemo {
         ensures grows { LooksGrow looks.old looks.new }
         ensures linear { LooksLinear self.old (length run.now) looks.old looks.new }
     {
-        if !is_looked_up(run.as_bytes()) {
-            if run.len() > MAX_KEY && starts_as_v0(run.as_bytes()) {
-                return self.write_long(run, output, looks);
-            }
-            return write_run(run, output, self.format, looks);
-        }
-        if !self.probe.is_on() {
-            return self.write_new(run, None, output, looks);
+        let is_likely = is_looked_up(run.as_bytes());
+        if !is_likely || !self.probe.is_on() {
+            let printed = self.store.print(run, is_likely, looks);
+            return self.store.write(run, printed, output, looks);
         }
         let hash = hash_of(run.as_bytes());
         if let Some(text) = self.store.texts.get(run.as_bytes(), hash, comparisons) {
@@ -498,6 +406,12 @@ impl SymbolMemo {
             return output.write_all(text);
         }
         self.probe.miss();
-        self.write_new(run, Some(hash), output, looks)
+        let noted = self.store.texts.note(hash);
+        let is_first = !matches!(noted, Noted::TooLong);
+        let printed = self.store.print(run, is_first, looks);
+        if matches!(noted, Noted::Again) {
+            self.store.remember(run, hash, printed);
+        }
+        self.store.write(run, printed, output, looks)
     }
 }

@@ -1,4 +1,4 @@
-use Rattle.std.proofs.Common.{◌<◌, List, ℕ, length, subst, sym, ◌∙◌}
+use Rattle.std.proofs.Common.{◌<◌, List, ℕ, length, subst}
 use Rattle.demangle_sink.specs.contracts.slice_sink.SliceSinkTextSink.TheImpl.{ghosts}
 use Rattle.demangle_value.specs.Filtered.{replacement_in}
 use Rattle.rustc_demangle.specs.LinearLooks.{LooksLinear}

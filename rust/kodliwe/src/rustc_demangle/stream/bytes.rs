@@ -70,10 +70,8 @@ impl<A: Allocator> BytesFilter<A> {
 ///
 /// The input is read in the reader's chunks and not by lines. The bytes of a chunk between two runs
 /// are one write. Memory holds the unfinished run at the end of the bytes so far, and a
-/// `SymbolMemo`. So a v0 symbol of at least 20 bytes is one write, and so is a legacy symbol of 20
-/// to 2,048 bytes with a hash. If it prints more than 2,048 bytes, it is written in parts if `limit`
-/// is over 1,000,000, or if memory for it can't be allocated. Each piece of another symbol is one
-/// write.
+/// `SymbolMemo`. So each symbol is one write. If it prints more than 2,048 bytes, it is written in
+/// parts if `limit` is over 1,000,000, or if memory for it can't be allocated.
 ///
 /// # Errors
 ///

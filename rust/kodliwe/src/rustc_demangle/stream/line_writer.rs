@@ -10,24 +10,9 @@ use crate::demangle_value::value::{Demangle, has_style, read_run};
 use std::io;
 use std::io::Write;
 
-/// Writes a symbol, with a separate write for each piece. Fails if the writer fails.
-fn write_symbol<W: Write>(symbol: &Demangle<'_>, output: &mut W, format: Format) -> io::Result<()> {
-    let mut sink = WriteSink::new(output);
-    // If it fails, the sink holds the writer's error.
-    let _ = symbol.write_formatted(&mut sink, format);
-    match sink.into_fault() {
-        Some(error) => Err(error),
-        None => Ok(()),
-    }
-}
-
 /// Writes a symbol, by one call of the writer if its text has up to 2,048 bytes. A longer text is
 /// written in parts. Fails if the writer fails.
-fn write_symbol_at_once<W: Write>(
-    symbol: &Demangle<'_>,
-    output: &mut W,
-    format: Format,
-) -> io::Result<()> {
+fn write_symbol<W: Write>(symbol: &Demangle<'_>, output: &mut W, format: Format) -> io::Result<()> {
     let mut sink = WriteSink::new(output);
     let written = write_at_once(symbol, &mut sink, format);
     match sink.into_fault() {
@@ -37,45 +22,14 @@ fn write_symbol_at_once<W: Write>(
     }
 }
 
-/// Writes a run that is not a symbol, by one call of the writer. Fails if the writer fails.
-fn write_text<W: Write>(text: &str, output: &mut W) -> io::Result<()> {
-    output.write_all(text.as_bytes())
-}
-
-/// Writes the replacement of a run that was read as this: the printed symbol, or the run itself if
-/// it is not a symbol. Either is one call of the writer if it has up to 2,048 bytes. Fails if the
-/// writer fails.
-fn write_read_at_once<W: Write>(
-    symbol: &Demangle<'_>,
-    run: &str,
-    output: &mut W,
-    format: Format,
-) -> io::Result<()> {
-    if has_style(symbol) {
-        write_symbol_at_once(symbol, output, format)
-    } else {
-        write_text(run, output)
-    }
-}
-
-/// Writes the replacement of a run, as `write_read_at_once` does. Fails if the writer fails.
-pub(super) fn write_run_at_once<W: Write>(
-    run: &str,
-    output: &mut W,
-    format: Format,
-) -> io::Result<()> {
-    let symbol = read_run(run);
-    write_read_at_once(&symbol, run, output, format)
-}
-
-/// Writes the replacement of a run: the printed symbol, with a write for each piece, or the run
-/// itself if it is not a symbol. Fails if the writer fails.
+/// Writes the replacement of a run: the printed symbol, or the run itself if it is not a symbol.
+/// Either is one call of the writer if it has up to 2,048 bytes. Fails if the writer fails.
 pub(super) fn write_run<W: Write>(run: &str, output: &mut W, format: Format) -> io::Result<()> {
     let symbol = read_run(run);
     if has_style(&symbol) {
         write_symbol(&symbol, output, format)
     } else {
-        write_text(run, output)
+        output.write_all(run.as_bytes())
     }
 }
 
@@ -89,8 +43,5 @@ pub(super) fn demangle_line<W: Write>(
     let mut sink = WriteSink::new(output);
     // If it fails, the sink holds the writer's error.
     let _ = demangle_text(line, &mut sink, include_hash);
-    match sink.into_fault() {
-        Some(error) => Err(error),
-        None => Ok(()),
-    }
+    sink.into_result()
 }

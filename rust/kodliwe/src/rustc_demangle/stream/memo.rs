@@ -3,7 +3,7 @@
 
 use crate::rustc_demangle::stream::buffer_sink::BufferSink;
 use crate::rustc_demangle::stream::credit::{Credit, starts_as_v0};
-use crate::rustc_demangle::stream::line_writer::{write_run, write_run_at_once};
+use crate::rustc_demangle::stream::line_writer::write_run;
 
 use crate::demangle_value::format::{Format, MAX_SIZE, SizeLimit, TextFormat, unfolded_form};
 use crate::demangle_value::value::printing::{Tried, print_legacy_run, print_v0_run};
@@ -67,9 +67,10 @@ impl Probe {
     }
 }
 
-/// The texts that are remembered, the last one that was printed for them, and whether runs are
-/// printed first.
+/// The texts that are remembered, the last one that was printed, the format of all, and whether runs
+/// are printed first.
 struct Store {
+    format: Format,
     texts: TextMemo,
     printed: GrowingBuffer,
     credit: Credit,
@@ -84,7 +85,6 @@ struct Store {
 /// symbols repeat.
 pub struct SymbolMemo {
     alloc: Global,
-    format: Format,
     store: Store,
     probe: Probe,
 }
@@ -139,23 +139,24 @@ fn is_looked_up(run: &[u8]) -> bool {
 }
 
 impl Store {
-    /// Prints a run into the buffer if it is not too long and runs are printed first. Otherwise it
-    /// reads the run. Returns what the run was read as, or `None` if it was printed.
+    /// Prints a run into the buffer before it is known to be a symbol, if `is_first`, the run is
+    /// not too long, and runs are printed first. Otherwise, or if that was in vain, it reads the
+    /// run. Returns what the run was read as, or `None` if it was printed.
     #[cfg_attr(not(debug_assertions), inline(always))]
-    fn print_or_read<'a>(&mut self, run: &'a str, format: Format) -> Option<Demangle<'a>> {
-        let most = if format.form.fold_arguments {
+    fn print_or_read<'a>(&mut self, run: &'a str, is_first: bool) -> Option<Demangle<'a>> {
+        let most = if self.format.form.fold_arguments {
             MOST_FOLDED
         } else {
             MOST_PRINTED
         };
-        if run.len() > most || !self.credit.is_given() {
+        if !is_first || run.len() > most || !self.credit.is_given() {
             let symbol = read_run(run);
-            if has_style(&symbol) {
+            if is_first && has_style(&symbol) {
                 self.credit.gain();
             }
             return Some(symbol);
         }
-        let (tried, fuel) = print_first(run, &mut self.printed, format);
+        let (tried, fuel) = print_first(run, &mut self.printed, self.format);
         let symbol = match tried {
             Tried::Printed => {
                 self.credit.gain();
@@ -168,36 +169,31 @@ impl Store {
         Some(symbol)
     }
 
-    /// Prints into the buffer a run that was read. If the path may have over 1,000,000 bytes, it
-    /// prints nothing, so that nothing is printed in vain.
-    fn print_read(&mut self, symbol: &Demangle<'_>, run: &str, format: Format) -> Printed {
-        if !has_style(symbol) {
+    /// Prints a run into the buffer, as `print_or_read` does, or after that has read it. If the
+    /// path of a run that was read may have over 1,000,000 bytes, it prints nothing, so that
+    /// nothing is printed in vain.
+    #[cfg_attr(not(debug_assertions), inline(always))]
+    fn print(&mut self, run: &str, is_first: bool) -> Printed {
+        let Some(symbol) = self.print_or_read(run, is_first) else {
+            return Printed::Symbol;
+        };
+        if !has_style(&symbol) {
             return Printed::NoSymbol;
         }
-        if TextFormat::for_text(format, run.len()).limit > MAX_SIZE {
+        if TextFormat::for_text(self.format, run.len()).limit > MAX_SIZE {
             return Printed::NotHeld;
         }
         self.printed.clear();
-        if print_to_buffer(symbol, &mut self.printed, format) {
+        if print_to_buffer(&symbol, &mut self.printed, self.format) {
             Printed::Symbol
         } else {
             Printed::NotHeld
         }
     }
 
-    /// Prints a run into the buffer.
-    #[cfg_attr(not(debug_assertions), inline(always))]
-    fn print_run(&mut self, run: &str, format: Format) -> Printed {
-        match self.print_or_read(run, format) {
-            Some(symbol) => self.print_read(&symbol, run, format),
-            None => Printed::Symbol,
-        }
-    }
-
-    /// Prints a run as `print_run` does, and remembers its text, or that it is too long for that.
+    /// Remembers the text of a run that was printed so, or that it is too long for that.
     #[inline(never)]
-    fn print_new(&mut self, run: &str, hash: u64, format: Format) -> Printed {
-        let printed = self.print_run(run, format);
+    fn remember(&mut self, run: &str, hash: u64, printed: Printed) {
         let key = run.as_bytes();
         match printed {
             Printed::Symbol if self.printed.len() > MAX_TEXT => self.texts.note_too_long(hash),
@@ -205,23 +201,16 @@ impl Store {
             Printed::NoSymbol => self.texts.insert(key, key, hash),
             Printed::NotHeld => self.texts.note_too_long(hash),
         }
-        printed
     }
 
-    /// Prints a run that is not in the memo, as `print_run` does. Its text is remembered if the run
-    /// came before. `hash` is the run's, or `None` if the memo is off.
+    /// Writes the replacement of a run that was printed so, by one call of the writer if the buffer
+    /// holds it. Fails if the writer fails.
     #[cfg_attr(not(debug_assertions), inline(always))]
-    fn print_not_in_memo(&mut self, run: &str, hash: Option<u64>, format: Format) -> Printed {
-        let Some(hash) = hash else {
-            return self.print_run(run, format);
-        };
-        match self.texts.note(hash) {
-            Noted::New => self.print_run(run, format),
-            Noted::Again => self.print_new(run, hash, format),
-            Noted::TooLong => {
-                let symbol = read_run(run);
-                self.print_read(&symbol, run, format)
-            }
+    fn write<W: Write>(&self, run: &str, printed: Printed, output: &mut W) -> io::Result<()> {
+        match printed {
+            Printed::Symbol => output.write_all(self.printed.as_slice()),
+            Printed::NoSymbol => output.write_all(run.as_bytes()),
+            Printed::NotHeld => write_run(run, output, self.format),
         }
     }
 }
@@ -239,8 +228,8 @@ impl SymbolMemo {
     pub fn with_format(alloc: Global, format: Format) -> Self {
         SymbolMemo {
             alloc,
-            format,
             store: Store {
+                format,
                 texts: TextMemo::new(alloc),
                 printed: GrowingBuffer::new(alloc),
                 credit: Credit::new(),
@@ -254,7 +243,7 @@ impl SymbolMemo {
 
     /// Returns the format in which symbols are printed.
     pub fn format(&self) -> Format {
-        self.format
+        self.store.format
     }
 
     /// Returns the allocator of the memo.
@@ -269,41 +258,13 @@ impl SymbolMemo {
         self.store.texts.allocated() + self.store.printed.allocated()
     }
 
-    /// Writes the text of a run that is not in the memo, by one call of the writer if the buffer
-    /// holds it. The text is remembered if the run came before. `hash` is the run's, or `None` if
-    /// the memo is off. Fails if the writer fails.
-    #[cfg_attr(not(debug_assertions), inline(always))]
-    fn write_new<W: Write>(
-        &mut self,
-        run: &str,
-        hash: Option<u64>,
-        output: &mut W,
-    ) -> io::Result<()> {
-        match self.store.print_not_in_memo(run, hash, self.format) {
-            Printed::Symbol => output.write_all(self.store.printed.as_slice()),
-            Printed::NoSymbol => output.write_all(run.as_bytes()),
-            Printed::NotHeld => write_run_at_once(run, output, self.format),
-        }
-    }
-
-    /// Writes the replacement of a run that is too long for the memo, as `write_new` does. The buffer
-    /// can copy parts of its text.
-    #[inline(never)]
-    fn write_long<W: Write>(&mut self, run: &str, output: &mut W) -> io::Result<()> {
-        self.write_new(run, None, output)
-    }
-
     /// Writes the replacement of a run: the printed symbol, or the run itself if it is not a
     /// symbol. Compares the run with at most two others. Fails if the writer fails.
     pub(super) fn write_run<W: Write>(&mut self, run: &str, output: &mut W) -> io::Result<()> {
-        if !is_looked_up(run.as_bytes()) {
-            if run.len() > MAX_KEY && starts_as_v0(run.as_bytes()) {
-                return self.write_long(run, output);
-            }
-            return write_run(run, output, self.format);
-        }
-        if !self.probe.is_on() {
-            return self.write_new(run, None, output);
+        let is_likely = is_looked_up(run.as_bytes());
+        if !is_likely || !self.probe.is_on() {
+            let printed = self.store.print(run, is_likely);
+            return self.store.write(run, printed, output);
         }
         let hash = hash_of(run.as_bytes());
         if let Some(text) = self.store.texts.get(run.as_bytes(), hash) {
@@ -311,6 +272,12 @@ impl SymbolMemo {
             return output.write_all(text);
         }
         self.probe.miss();
-        self.write_new(run, Some(hash), output)
+        let noted = self.store.texts.note(hash);
+        let is_first = !matches!(noted, Noted::TooLong);
+        let printed = self.store.print(run, is_first);
+        if matches!(noted, Noted::Again) {
+            self.store.remember(run, hash, printed);
+        }
+        self.store.write(run, printed, output)
     }
 }

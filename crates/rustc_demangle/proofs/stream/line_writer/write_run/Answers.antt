@@ -17,8 +17,8 @@ returns-then-has_style-clause-text g c =
 pub returns-else-has_style-clause-text : goal.returns-else-has_style-clause-text
 returns-else-has_style-clause-text g c =
     let same = c.read_run-symbol.ensures.text in
-    let text = sym (replacement_in-no_symbol c.args.format c.args.run.now (λ is. c.if-has_style.ensures.no refl (subst IsSymbol (sym same) is))) in
-    on_ok_weaker c.write_text.result (subst (Appends (g.W.Write.contents c.args.output.now) (g.W.Write.contents c.write_text.new.output)) text) c.write_text.ensures
+    let text = c.as_bytes.ensures.value ∙ sym (replacement_in-no_symbol c.args.format c.args.run.now (λ is. c.if-has_style.ensures.no refl (subst IsSymbol (sym same) is))) in
+    on_ok_weaker c.write_all.result (subst (Appends (g.W.Write.contents c.args.output.now) (g.W.Write.contents c.write_all.new.self)) text) c.write_all.ensures.bytes
 
 pub returns-then-has_style-clause-prints : goal.returns-then-has_style-clause-prints
 returns-then-has_style-clause-prints g c = prints_linear c.args.format c.read_run-symbol.result c.args.run.now _ _ c.read_run-symbol.ensures.text c.write_symbol.ensures.looks
