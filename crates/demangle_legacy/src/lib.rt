@@ -38,6 +38,8 @@ fn inner_of(s: &str) -> Option<&str>
 
 /// Returns the text after the prefix of a legacy symbol, if that text is ASCII. `is_ascii` says
 /// that the text is known to be ASCII. In that case it is not tested.
+// It is inlined, since most texts that are asked about have no prefix.
+#[inline(always)]
 fn ascii_inner_of<'s>(s: &'s str, is_ascii: bool, looks: &mut Looks) -> Option<&'s str>
     requires { IsTrue is_ascii → IsAscii s.now }
     ensures some { IfSome result (λ x. Some x.now ≡ inner_of s.now) }
@@ -67,6 +69,8 @@ fn ascii_inner_of<'s>(s: &'s str, is_ascii: bool, looks: &mut Looks) -> Option<&
 /// # Errors
 ///
 /// Returns `Err` if the text is not a legacy symbol.
+// As a call, it leaves the caller that reads both schemes small enough to be inlined.
+#[inline(never)]
 pub fn demangle<'s>(
     s: &'s str,
     is_ascii: bool,

@@ -10,7 +10,7 @@ use Rattle.demangle_sink.specs.declared.limit.SizeLimitedFmtAdapter.{SizeLimited
 use Rattle.demangle_sink.proofs.CutLemmas.{fitting-all}
 use Rattle.demangle_v0_grammar.specs.Items.{Text}
 use Rattle.demangle_v0_grammar.specs.Reading.{Form}
-use Rattle.demangle_v0.specs.Attempts.{PrintsPath, PrintsWithMore}
+use Rattle.demangle_v0.specs.FirstPaths.{PrintsPath, PrintsWithMore}
 use Rattle.demangle_v0_parser.specs.Loops.{Emitted, Ended, PrintDone, printing}
 use Rattle.demangle_v0_parser.specs.Steps.{machine}
 use Rattle.demangle_v0_parser.specs.Traces.{Action, allows_looks, puts, goes_back, comes_back}

@@ -1,5 +1,5 @@
 -- Internal.
 pub mod HeldTexts
 pub mod Above
-pub mod Attempts
+pub mod FirstPaths
 pub mod Printed

@@ -6,10 +6,14 @@ ghost use Rattle.demangle_v0_grammar.specs.V0.{v0_inner, v0_of};
 ghost use Rattle.demangle_sink.specs.Limit.{Ready};
 ghost use Rattle.demangle_v0.specs.Printed.{HasLengthsWithin, IsKnown};
 
-use crate::validation::{Attempt, begins_path, print_to_suffix, suffix_at};
-use demangle_sink::{SizeLimitedFmtAdapter, TextSink};
+use crate::stacks::SHORT_STACK;
+use crate::validation::{begins_path, print_or_validate, suffix_at};
+use demangle_sink::{SinkRefused, SizeLimitedFmtAdapter, TextSink};
 use demangle_symbol::cursor::{Looks, ParseError, RunLooks, Symbol};
 use demangle_symbol::form::Form;
+use demangle_v0_parser::frames::UNUSED_FRAME;
+use demangle_v0_parser::fuel::Fuel;
+use demangle_v0_parser::parse::Parser;
 use demangle_v0_tokens::source::Source;
 
 mod held_texts;
@@ -115,15 +119,22 @@ pub fn demangle<'s>(
     Ok((Demangle::new(symbol), &inner[end..]))
 }
 
+/// How much of the first path of a symbol was printed.
+#[derive(Clone, Copy)]
+pub enum Extent {
+    /// The whole path.
+    Whole,
+    /// The path up to a limit.
+    Cut,
+    /// An unknown part of the path.
+    Part,
+}
+
 /// What is known of a text whose first path was printed before it was known to be a symbol.
 #[derive(Drop)]
 pub enum Printed<'s> {
-    /// The text is this symbol with this suffix, and its first path was printed.
-    Symbol(Demangle<'s>, &'s str),
-    /// The text is this symbol with this suffix, and its first path was printed up to a limit.
-    Cut(Demangle<'s>, &'s str),
-    /// The text is this symbol with this suffix. A part of the first path may be printed.
-    Part(Demangle<'s>, &'s str),
+    /// The text is this symbol with this suffix, and so much of its first path was printed.
+    Symbol(Demangle<'s>, &'s str, Extent),
     /// The text is not a symbol. A part of a path may be printed.
     NoSymbol,
     /// The limit or the sink rejected a piece, or the limit a reference, before it was known whether
@@ -137,19 +148,20 @@ pub struct FirstPrint {
     pub form: Form,
     /// How many more bytes may be passed to the sink after the text was validated.
     pub withheld: usize,
-    /// How much fuel the references of a path used up that was not printed.
+    /// How much fuel the references of the path used up.
     pub fuel: usize,
 }
 
-/// Reads a v0 symbol and prints its first path, and counts its looks: with hashes or without them,
-/// and with its generic arguments or with `_` for them. Returns what is known of the text then, which
-/// must be ASCII.
+/// Prints the first path of a v0 symbol before the text is known to be one, and counts its looks: with
+/// hashes or without them, and with its generic arguments or with `_` for them. Returns what is known
+/// of the text then, which must be ASCII, and sets the fuel of `first`.
 ///
-/// If the path has few references, the text is read once. Otherwise, and after an error, the text is
-/// validated before the rest of the path is printed, and more bytes may be passed to the sink then. A
-/// path that is nested deeply may be printed in part. The looks up to the end of validation are
-/// bounded by the length of the text, and by less if the text was not validated.
-pub fn demangle_printed<'s, S: TextSink>(
+/// The path is printed until its fuel is used up. If it has few references, the text is read once.
+/// Otherwise, and after an error, the text is validated before the rest of the path is printed, and
+/// more bytes may be passed to the sink then. A path that is nested deeply may be printed in part. The
+/// looks up to the end of validation are bounded by the length of the text, and by less if the text was
+/// not validated.
+pub fn print_first<'s, S: TextSink>(
     s: &'s str,
     out: &mut SizeLimitedFmtAdapter<'_, S>,
     first: &mut FirstPrint,
@@ -178,11 +190,15 @@ pub fn demangle_printed<'s, S: TextSink>(
         symbol: &symbol,
         form: first.form,
     };
-    match print_to_suffix(source, out, first, looks) {
-        Attempt::Printed(end) => Printed::Symbol(Demangle::new(symbol), &inner[end..]),
-        Attempt::Cut(end) => Printed::Cut(Demangle::new(symbol), &inner[end..]),
-        Attempt::Read(end) => Printed::Part(Demangle::new(symbol), &inner[end..]),
-        Attempt::NoPath => Printed::NoSymbol,
-        Attempt::Unknown => Printed::Unknown,
+    let mut memory = [UNUSED_FRAME; SHORT_STACK];
+    let mut parser = Parser::at_path(source, 0, &mut memory, &mut looks.accepting_looks);
+    parser.fuel = Fuel::for_run(symbol.len());
+    let path = print_or_validate(&mut parser, out, first.withheld, &mut looks.printing_looks);
+    looks.accepting_looks = parser.looks;
+    first.fuel = parser.fuel.used_within();
+    match path {
+        Ok(Some(path)) => Printed::Symbol(Demangle::new(symbol), &inner[path.end..], path.extent),
+        Ok(None) => Printed::NoSymbol,
+        Err(SinkRefused) => Printed::Unknown,
     }
 }

@@ -2,10 +2,12 @@
 ghost use Rattle.std.specs.Prelude.{◌≡◌, ◌+◌, ◌<◌, ◌≤◌, ◌⊎◌, true, false, length, IsAscii, IfSome, IsOk, Ok, Some, None};
 ghost use Rattle.demangle_sink.specs.Limit.{Ready};
 ghost use Rattle.demangle_v0.specs.Above.{PrintsAbove, PrintsTarget, StopsAtTarget, printing_on, work_left};
+ghost use Rattle.demangle_v0.specs.FirstPaths.{PrintsRest};
 ghost use Rattle.demangle_v0.specs.HeldTexts.{HoldsTexts};
 ghost use Rattle.demangle_v0_parser.specs.Targets.{is_target};
-ghost use Rattle.demangle_v0_parser.specs.Parsers.{EndsPrinting, IsValid, UnfinishedIsValid, Paced, PrintsAll, PrintsApart, PrintsOn, PrintsSteps, Same, first_looks_of, most_looks, unfinished_looks};
+ghost use Rattle.demangle_v0_parser.specs.Parsers.{EndsPrinting, IsValid, UnfinishedIsValid, Paced, PrintsAll, PrintsOn, PrintsSteps, Same, first_looks_of, most_looks, unfinished_looks};
 
+use crate::Extent;
 use crate::held_texts::{
     MOST_TEXTS, PrintScope, StoredText, UNUSED_TEXT, end_note, run_target, start_note,
 };
@@ -189,7 +191,7 @@ fn print_noting<S: TextSink>(
 /// fuel is used up. Returns what is left then.
 ///
 /// Fails at the first piece that the limit or the sink rejects.
-fn print_steps<S: TextSink>(
+pub fn print_steps<S: TextSink>(
     parser: &mut Parser<'_, '_>,
     out: &mut SizeLimitedFmtAdapter<'_, S>,
     has_budget: bool,
@@ -341,28 +343,6 @@ pub fn print_path<S: TextSink>(
     }
 }
 
-/// Prints until nothing is left, the fuel is used up, or the stack is full. Returns what is left.
-///
-/// Fails at the first piece that the limit or the sink rejects.
-#[inline(always)]
-pub fn print_within<S: TextSink>(
-    parser: &mut Parser<'_, '_>,
-    out: &mut SizeLimitedFmtAdapter<'_, S>,
-) -> Result<Option<Unfinished>, SinkRefused>
-    requires ascii { IsAscii parser.old.source.symbol.now }
-    requires ready { Ready S.TextSink out.old }
-    requires valid { IsValid parser.old }
-    ensures ran { PrintsSteps S.TextSink parser.old out.old result parser.new out.new }
-    ensures ready { IsOk result → Ready S.TextSink out.new }
-    ensures valid { UnfinishedIsValid 0 result parser.new }
-    ensures grows { parser.old.looks ≤ parser.new.looks }
-    ensures paced { IsOk result → Paced 0 parser.old parser.new }
-    ensures most { parser.new.looks ≤ most_looks parser.old }
-    ensures same { Same parser.old parser.new }
-{
-    print_steps(parser, out, true)
-}
-
 /// Returns the place after a path that was printed within the budget. Returns `None` if anything
 /// is left of it or no fuel is left, as after an error.
 #[inline(always)]
@@ -376,25 +356,25 @@ pub fn end_within(parser: &Parser<'_, '_>, left: Option<Unfinished>) -> Option<u
     }
 }
 
-/// Prints what is left of a valid symbol, in larger stacks if this one is full. Counts its looks
-/// apart from the others.
-///
-/// Fails at the first piece that the limit or the sink rejects.
+/// Prints what is left of a valid symbol, with `withheld` more bytes, in larger stacks if this one is
+/// full. Counts its looks apart from the others. Returns how much of the path was printed.
 #[inline(never)]
-pub fn print_validated<S: TextSink>(
+pub fn print_rest<S: TextSink>(
     parser: &mut Parser<'_, '_>,
     out: &mut SizeLimitedFmtAdapter<'_, S>,
+    withheld: usize,
     printing_looks: &mut Looks,
-) -> Result<(), SinkRefused>
+) -> Extent
     requires ascii { IsAscii parser.old.source.symbol.now }
     requires ready { Ready S.TextSink out.old }
     requires valid { IsValid parser.old }
     requires smaller { parser.old.stack.room ≤ MIDDLE_STACK }
-    ensures ended { PrintsApart S.TextSink parser.old out.old result out.new printing_looks.old
+    ensures rest { PrintsRest S.TextSink withheld parser.old out.old result out.new printing_looks.old
         printing_looks.new }
     ensures apart { printing_looks.old ≤ printing_looks.new }
     ensures looks { parser.new.looks ≡ parser.old.looks }
 {
+    let are_all_allowed = out.allow_more(withheld);
     parser.fuel = Fuel::none();
     let accepting = mem::replace(
         &mut parser.looks,
@@ -402,5 +382,11 @@ pub fn print_validated<S: TextSink>(
     );
     let printed = print_path(parser, out);
     *printing_looks = mem::replace(&mut parser.looks, accepting);
-    printed
+    if printed.is_ok() {
+        Extent::Whole
+    } else if are_all_allowed && out.is_limit_reached() {
+        Extent::Cut
+    } else {
+        Extent::Part
+    }
 }

@@ -1,5 +1,5 @@
 //! Validates v0 symbols: parses them without output, and finds the suffix.
-ghost use Rattle.std.specs.Prelude.{◌≡◌, ℕ, ◌+◌, ◌*◌, ◌≤◌, [], length, false, true, IsAscii, IfSome, IsSome, Ok, Some};
+ghost use Rattle.std.specs.Prelude.{◌≡◌, ℕ, ◌+◌, ◌*◌, ◌≤◌, [], length, false, true, IsAscii, IfOk, IfSome, IsSome, OnErr, Some};
 ghost use Rattle.demangle_v0_grammar.specs.Items.{a_path};
 ghost use Rattle.demangle_v0_parser.specs.Parsers.{IsValid, Recounted, Same, all_of, trace_without_output};
 ghost use Rattle.demangle_v0_parser.specs.Measure.{AllInner};
@@ -8,18 +8,17 @@ ghost use Rattle.demangle_v0_grammar.specs.Reading.{starts_second_path, unit_end
 ghost use Rattle.demangle_v0_grammar.specs.LookTotals.{allowed_in};
 ghost use Rattle.demangle_v0_grammar.specs.ValidationLooks.{looks_in, suffix_looks, accepting_looks};
 ghost use Rattle.demangle_sink.specs.Limit.{Ready};
-ghost use Rattle.demangle_v0.specs.Attempts.{IsUncut, PrintsIfPrinted, SuffixOf};
+ghost use Rattle.demangle_v0.specs.FirstPaths.{PrintsExtent, SuffixOf};
 
-use crate::FirstPrint;
-use crate::printer::{end_within, print_validated, print_within};
+use crate::Extent;
+use crate::printer::{end_within, print_rest, print_steps};
 use crate::reading::read_steps;
 use crate::stacks::{FULL_STACK, MIDDLE_STACK, SHORT_STACK};
-use demangle_sink::{SizeLimitedFmtAdapter, TextSink};
-use demangle_symbol::cursor::{Looks, RunLooks, Symbol};
+use demangle_sink::{SinkRefused, SizeLimitedFmtAdapter, TextSink};
+use demangle_symbol::cursor::{Looks, Symbol};
 use demangle_symbol::form::Form;
 use demangle_v0_parser::Continuation;
 use demangle_v0_parser::frames::UNUSED_FRAME;
-use demangle_v0_parser::fuel::Fuel;
 use demangle_v0_parser::parse::Parser;
 use demangle_v0_parser::stops::{ReadOutcome, Unfinished};
 use demangle_v0_tokens::source::Source;
@@ -164,21 +163,6 @@ pub fn begins_path(symbol: &Symbol<'_>, place: usize, looks: &mut Looks) -> bool
     }
 }
 
-/// What is known of a symbol whose first path was printed before it was validated.
-#[derive(Clone, Copy)]
-pub enum Attempt {
-    /// The first path was printed, and the suffix begins at this place.
-    Printed(usize),
-    /// The suffix begins at this place, and the first path was printed up to a limit.
-    Cut(usize),
-    /// The suffix begins at this place. A part of the first path may be printed.
-    Read(usize),
-    /// A path has an error. A part of the first path may be printed.
-    NoPath,
-    /// The limit or the sink rejected a piece, or the limit a reference.
-    Unknown,
-}
-
 /// Returns whether a suffix may begin at a place: the end, or a `.`.
 fn may_begin_suffix(symbol: &Symbol<'_>, place: usize, looks: &mut Looks) -> bool
     ensures grows { looks.old ≤ looks.new }
@@ -187,118 +171,87 @@ fn may_begin_suffix(symbol: &Symbol<'_>, place: usize, looks: &mut Looks) -> boo
     place == symbol.len() || symbol.is_at(b'.', place, looks)
 }
 
-/// Reads a second path after the first one, which was printed and ends at a place.
+/// Reads a second path after the first one, which ends at a place. Returns the place of the suffix,
+/// or `None` if the second path has an error.
 #[inline(always)]
-fn after_first_path(parser: &mut Parser<'_, '_>, end: usize) -> Attempt
+fn end_after(parser: &mut Parser<'_, '_>, end: usize) -> Option<usize>
     requires first { Some end ≡ unit_end parser.old.source.symbol.now a_path 0 0 }
     requires smaller { parser.old.stack.room ≤ MIDDLE_STACK }
-    ensures suffix { SuffixOf parser.old.source.symbol.now result }
-    ensures uncut { IsUncut result }
+    ensures value { result ≡ suffix_place parser.old.source.symbol.now }
     ensures grows { parser.old.looks ≤ parser.new.looks }
     ensures most { parser.new.looks ≤ parser.old.looks + 32 * (length parser.old.source.symbol.now + 1)
         + 1 }
 {
     if !begins_path(parser.source.symbol, end, &mut parser.looks) {
-        return Attempt::Printed(end);
+        return Some(end);
     }
     // Arguments are folded only when they are printed.
     parser.source.form.fold_arguments = false;
     parser.stack.truncate(0);
-    match path_end(parser, end) {
-        Some(end) => Attempt::Printed(end),
-        None => Attempt::NoPath,
-    }
+    path_end(parser, end)
 }
 
-/// Prints the first path, at which the parser is, and reads a second one, as `print_to_suffix` does.
+/// A symbol whose first path was printed before it was validated.
+#[derive(Clone, Copy)]
+pub struct FirstPath {
+    /// The place of the suffix.
+    pub end: usize,
+    /// How much of the path was printed.
+    pub extent: Extent,
+}
+
+/// Prints the first path, at which the parser is, and reads a second one. Returns the symbol, or
+/// `None` if a path has an error. Then a part of the first path may be printed.
+///
+/// The path is printed before it is known whether the symbol is valid, until the fuel is used up.
+/// Then the symbol is validated, and only the rest of a valid one is printed, with `withheld` more
+/// bytes. The looks up to that are bounded by the fuel and the length of the symbol, and by less if it
+/// was not validated.
+///
+/// Fails if the limit or the sink rejects a piece, or the limit a reference, before that.
 #[inline(always)]
-fn printed_first<S: TextSink>(
+pub fn print_or_validate<S: TextSink>(
     parser: &mut Parser<'_, '_>,
     out: &mut SizeLimitedFmtAdapter<'_, S>,
     withheld: usize,
     printing_looks: &mut Looks,
-) -> Attempt
+) -> Result<Option<FirstPath>, SinkRefused>
     requires ascii { IsAscii parser.old.source.symbol.now }
     requires ready { Ready S.TextSink out.old }
     requires path { parser.old.continuation ≡ Continuation.Path }
     requires state { parser.old.state ≡ first_state 0 }
     requires empty { parser.old.stack.frames ≡ [] }
     requires smaller { parser.old.stack.room ≤ MIDDLE_STACK }
-    ensures suffix { SuffixOf parser.old.source.symbol.now result }
-    ensures prints { PrintsIfPrinted S.TextSink withheld out.old parser.old.source.symbol.now
-        parser.old.source.form result out.new }
+    ensures suffix { IfOk result (λ path. SuffixOf parser.old.source.symbol.now path) }
+    ensures prints { IfOk result (λ path. IfSome path (λ first. PrintsExtent S.TextSink withheld out.old
+        parser.old.source.symbol.now parser.old.source.form first.extent out.new)) }
     ensures grows { parser.old.looks ≤ parser.new.looks }
     ensures most { parser.new.looks ≤ parser.old.looks + 4 * all_of parser.old.fuel + 76 * (length
         parser.old.source.symbol.now + 1) + 8 }
-    ensures early { result ≡ Attempt.Unknown → parser.new.looks ≤ parser.old.looks + 4 * all_of parser.old.fuel +
-        36 * (length parser.old.source.symbol.now + 1) + 7 }
+    ensures early { OnErr result (parser.new.looks ≤ parser.old.looks + 4 * all_of parser.old.fuel +
+        36 * (length parser.old.source.symbol.now + 1) + 7) }
     ensures apart { printing_looks.old ≤ printing_looks.new }
     ensures few { (most : ℕ) → out.old.reread.most ≡ Some most → printing_looks.new ≤
         printing_looks.old + 20 * (length parser.old.source.symbol.now + 1 + most) }
 {
-    let Ok(left) = print_within(parser, out) else {
-        return Attempt::Unknown;
-    };
+    let left = print_steps(parser, out, true)?;
     if let Some(end) = end_within(parser, left) {
-        return after_first_path(parser, end);
+        let Some(end) = end_after(parser, end) else {
+            return Ok(None);
+        };
+        let extent = Extent::Whole;
+        return Ok(Some(FirstPath { end, extent }));
     }
     let Some(end) = suffix_at(parser.source.symbol, &mut parser.looks) else {
-        return Attempt::NoPath;
+        return Ok(None);
     };
-    if !may_begin_suffix(parser.source.symbol, end, &mut parser.looks) {
-        return Attempt::Read(end);
-    }
-    match left {
-        None => Attempt::Printed(end),
-        Some(Unfinished::Printing) => {
-            let are_all_allowed = out.allow_more(withheld);
-            if print_validated(parser, out, printing_looks).is_ok() {
-                Attempt::Printed(end)
-            } else if are_all_allowed && out.is_limit_reached() {
-                Attempt::Cut(end)
-            } else {
-                Attempt::Read(end)
-            }
+    let is_suffix = may_begin_suffix(parser.source.symbol, end, &mut parser.looks);
+    let extent = match left {
+        None => Extent::Whole,
+        Some(Unfinished::Printing) if is_suffix => {
+            print_rest(parser, out, withheld, printing_looks)
         }
-        Some(Unfinished::Skipping(_, _)) => Attempt::Read(end),
-    }
-}
-
-/// Prints the first path of a symbol, and reads a second one. Returns what is known of the symbol
-/// then.
-///
-/// The path is printed before it is known whether the symbol is valid, until the fuel is used up.
-/// Then the symbol is validated, and only the rest of a valid one is printed, with the bytes that
-/// `first` withheld. The looks up to that are bounded by the length of the symbol, and by less if it
-/// was not validated. If the path was not printed, the fuel of `first` is set.
-pub fn print_to_suffix<S: TextSink>(
-    source: Source<'_>,
-    out: &mut SizeLimitedFmtAdapter<'_, S>,
-    first: &mut FirstPrint,
-    looks: &mut RunLooks,
-) -> Attempt
-    requires ascii { IsAscii source.symbol.now }
-    requires ready { Ready S.TextSink out.old }
-    ensures suffix { SuffixOf source.entry.symbol.now result }
-    ensures prints { PrintsIfPrinted S.TextSink first.old.withheld out.old source.entry.symbol.now
-        source.entry.form result out.new }
-    ensures grows { looks.old.accepting_looks ≤ looks.new.accepting_looks }
-    ensures most { looks.new.accepting_looks ≤ looks.old.accepting_looks + 132 * (length
-        source.entry.symbol.now + 1) }
-    ensures early { result ≡ Attempt.Unknown → looks.new.accepting_looks ≤ looks.old.accepting_looks + 84 *
-        (length source.entry.symbol.now + 1) + 7 }
-    ensures apart { looks.old.printing_looks ≤ looks.new.printing_looks }
-    ensures few { (most : ℕ) → out.old.reread.most ≡ Some most → looks.new.printing_looks ≤
-        looks.old.printing_looks + 20 * (length source.entry.symbol.now + 1 + most) }
-{
-    let mut memory = [UNUSED_FRAME; SHORT_STACK];
-    let mut parser = Parser::at_path(source, 0, &mut memory, &mut looks.accepting_looks);
-    parser.fuel = Fuel::for_run(source.symbol.len());
-    let result = printed_first(&mut parser, out, first.withheld, &mut looks.printing_looks);
-    looks.accepting_looks = parser.looks;
-    match result {
-        Attempt::Printed(_) => {}
-        _ => first.fuel = parser.fuel.used_within(),
-    }
-    result
+        Some(_) => Extent::Part,
+    };
+    Ok(Some(FirstPath { end, extent }))
 }

@@ -3,7 +3,7 @@ ghost use Rattle.std.specs.Prelude.{◌≡◌, ◌+◌, ◌*◌, ◌≤◌, IfSo
 ghost use Rattle.demangle_sink.specs.Cut.{kept};
 ghost use Rattle.demangle_sink.specs.Limit.{Ready};
 ghost use Rattle.demangle_v0_grammar.specs.Again.{path_again};
-ghost use Rattle.demangle_v0.specs.Attempts.{PrintsPath, texts_for};
+ghost use Rattle.demangle_v0.specs.FirstPaths.{PrintsPath, texts_for};
 
 use crate::printer::print_path;
 use crate::stacks::SHORT_STACK;

@@ -14,7 +14,7 @@ use Rattle.demangle_sink.proofs.CutLemmas.{size-append, fitting-all, fitting-app
 use Rattle.demangle_sink.proofs.PrintsLemmas.{cut-within, cut-past}
 use Rattle.demangle_v0_grammar.specs.Reading as reading
 use Rattle.demangle_v0_grammar.specs.References.{path_texts_before, texts_before, is_whole, path_moves}
-use Rattle.demangle_v0.specs.Attempts.{texts_for, is_whole_for}
+use Rattle.demangle_v0.specs.FirstPaths.{texts_for, is_whole_for}
 use Rattle.demangle_v0_grammar.proofs.ReferenceLaw.{unlimited_texts, unlimited_whole}
 use Rattle.demangle_value.specs.Shape.{LimitedForm, unlimited_form, texts_within, is_all, marked_unless, path_pieces}
 use Rattle.demangle_value.specs.Style.{style_pieces, style_texts, is_style_all}

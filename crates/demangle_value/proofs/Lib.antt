@@ -10,3 +10,4 @@ pub mod SymbolLaws
 pub mod SymbolLemmas
 pub mod AllReferences
 pub mod LinearPrinting
+pub mod V0Runs

@@ -1,5 +1,5 @@
 //! Prints symbols into sinks, cut at a limit.
-ghost use Rattle.std.specs.Prelude.{◌≡◌, ◌+◌, ◌-◌, ◌*◌, ◌≤◌, length, true, false, IfSome, IsTrue};
+ghost use Rattle.std.specs.Prelude.{◌≡◌, ◌+◌, ◌-◌, ◌*◌, ◌≤◌, ◌⊎◌, length, true, false, IfSome};
 ghost use Rattle.std.specs.List.{list_all};
 ghost use Rattle.demangle_sink.specs.Cut.{cut};
 ghost use Rattle.demangle_sink.specs.PutsPieces.{PutsPieces};
@@ -9,7 +9,7 @@ ghost use Rattle.demangle_value.specs.PathEnds.{handed_with_path_len};
 ghost use Rattle.demangle_value.specs.Shape.{limited};
 ghost use Rattle.demangle_value.specs.Stripped.{stripped};
 ghost use Rattle.demangle_value.specs.Style.{style_pieces, style_len, style_looks, style_looks_again, style_least};
-ghost use Rattle.demangle_value.specs.Tried.{IsRunRead};
+ghost use Rattle.demangle_value.specs.Tried.{IsRunRead, IsUnknown, is_v0_run};
 ghost use Rattle.demangle_value.specs.Limits.{most_bytes};
 ghost use Rattle.demangle_value.specs.Symbols.{folded, handed, handed_in, PrintingLooks, PrintingLooksIn};
 ghost use Rattle.demangle_sink.specs.Writes.{Writes};
@@ -19,7 +19,7 @@ use crate::strip::without_thin_lto;
 use crate::value::{Demangle, DemangleStyle, is_allowed};
 use demangle_sink::{SinkRefused, SizeLimitedFmtAdapter, TextSink, put_piece};
 use demangle_symbol::cursor::{Looks, RunLooks};
-use demangle_v0::{FirstPrint, Printed};
+use demangle_v0::{Extent, FirstPrint, Printed};
 
 /// Prints a symbol without its suffix into a sink, cut at the limit. Fails if the sink fails.
 fn write_cut<S: TextSink>(
@@ -247,39 +247,46 @@ fn text_withheld(format: TextFormat, limit: usize) -> usize
     format.limit.saturating_sub(limit)
 }
 
+/// Returns whether a run, or a run with the `_` before it, starts as a v0 symbol.
+#[inline(always)]
+pub fn starts_as_v0(run: &[u8]) -> bool
+    ensures { result ≡ is_v0_run run.now }
+{
+    (run.len() > 2) && ((run[1] == b'R') | ((run[1] == b'_') & (run[2] == b'R')))
+}
+
 /// What is known of a run that was printed before it was known to be a symbol.
 #[derive(Drop)]
 pub enum Tried<'a> {
     /// The run is a symbol, and its text was printed.
     Printed,
-    /// The run was read as this text, symbol or not. A part of a path may be printed.
-    Read(Demangle<'a>),
-    /// Nothing is known, and a part of a path may be printed. `read_run` says what the run is.
-    Unknown,
+    /// A part of a path may be printed, whose references used up so much fuel. The run was read as
+    /// this text, symbol or not. If there is none, `read_run` says what the run is.
+    InVain(Option<Demangle<'a>>, usize),
 }
 
-/// Prints a v0 run before it is known to be a symbol, as `demangle_v0::demangle_printed` does, and
-/// counts its looks. A run is ASCII. Returns what is known of it then, and how much fuel the
-/// references of one that was not printed used up.
+/// Prints a v0 run before it is known to be a symbol, as `demangle_v0::print_first` does, and counts
+/// its looks. A run is ASCII.
 ///
 /// Nothing is known of a path that is much longer than the run, unless the run was validated before
 /// its end was printed.
 #[inline(never)]
-pub fn print_v0_run<'a, S: TextSink>(
+fn print_v0_first<'a, S: TextSink>(
     run: &'a str,
     out: &mut S,
     format: Format,
     looks: &mut RunLooks,
-) -> (Tried<'a>, usize)
+) -> Tried<'a>
     requires run { list_all is_run_byte run.now ≡ true }
+    requires v0 { is_v0_run run.now ≡ true }
     requires not_failed { S.failed out.old ≡ false }
-    ensures took { result.0 ≡ Tried.Printed →
+    ensures took { result ≡ Tried.Printed →
         S.took out.old (replacement_in format run.now) out.new }
-    ensures read { IsRunRead run.now result.0 }
+    ensures read { IsRunRead run.now result }
     ensures grows { looks.old.accepting_looks ≤ looks.new.accepting_looks }
     ensures most { looks.new.accepting_looks ≤ looks.old.accepting_looks + 143 * (length run.now + 1) }
-    ensures early { result.0 ≡ Tried.Unknown → looks.new.accepting_looks
-        ≤ looks.old.accepting_looks + 85 * (length run.now + 1) + 8 }
+    ensures early { IsUnknown result → looks.new.accepting_looks
+        ≤ looks.old.accepting_looks + 88 * (length run.now + 1) }
     ensures apart { looks.old.printing_looks ≤ looks.new.printing_looks }
     ensures prints { PrintsLinear format 1 (length run.now) looks.old.printing_looks
         looks.new.printing_looks }
@@ -293,68 +300,50 @@ pub fn print_v0_run<'a, S: TextSink>(
         withheld: text_withheld(limits, limit),
         fuel: 0,
     };
-    match demangle_v0::demangle_printed(text, &mut limited, &mut first, looks) {
-        Printed::Symbol(symbol, suffix) => {
+    match demangle_v0::print_first(text, &mut limited, &mut first, looks) {
+        Printed::Symbol(symbol, suffix, extent) => {
             let allowed = is_allowed(suffix, &mut looks.accepting_looks);
-            if allowed && put_piece(suffix, out).is_ok() {
-                return (Tried::Printed, 0);
-            }
-            let style = DemangleStyle::V0(symbol);
-            let read = Demangle::with_style(text, style, suffix, allowed);
-            (Tried::Read(read), first.fuel)
-        }
-        Printed::Cut(symbol, suffix) => {
-            let allowed = is_allowed(suffix, &mut looks.accepting_looks);
-            // With a greater limit, the path was not printed up to it.
-            if allowed && limits.limit <= MAX_SIZE {
-                let marked = put_piece("{size limit reached}", out);
-                if marked.is_ok() && put_piece(suffix, out).is_ok() {
-                    return (Tried::Printed, 0);
+            if allowed {
+                match extent {
+                    Extent::Whole => {
+                        if put_piece(suffix, out).is_ok() {
+                            return Tried::Printed;
+                        }
+                    }
+                    // With a greater limit, the path was not printed up to it.
+                    Extent::Cut if limits.limit <= MAX_SIZE => {
+                        let marked = put_piece("{size limit reached}", out);
+                        if marked.is_ok() && put_piece(suffix, out).is_ok() {
+                            return Tried::Printed;
+                        }
+                    }
+                    Extent::Cut | Extent::Part => {}
                 }
             }
             let style = DemangleStyle::V0(symbol);
             let read = Demangle::with_style(text, style, suffix, allowed);
-            (Tried::Read(read), first.fuel)
+            Tried::InVain(Some(read), first.fuel)
         }
-        Printed::Part(symbol, suffix) => {
-            let allowed = is_allowed(suffix, &mut looks.accepting_looks);
-            let style = DemangleStyle::V0(symbol);
-            let read = Demangle::with_style(text, style, suffix, allowed);
-            (Tried::Read(read), first.fuel)
-        }
-        // A text with the prefix of v0 has not that of the legacy scheme, so this ends at once.
-        Printed::NoSymbol => match demangle_legacy::demangle(
-            text,
-            true,
-            &mut looks.accepting_looks,
-        ) {
-            Ok((symbol, suffix)) => {
-                let allowed = is_allowed(suffix, &mut looks.accepting_looks);
-                let style = DemangleStyle::Legacy(symbol);
-                let read = Demangle::with_style(text, style, suffix, allowed);
-                (Tried::Read(read), first.fuel)
-            }
-            Err(()) => (Tried::Read(Demangle::without_style(text)), first.fuel),
-        },
-        Printed::Unknown => (Tried::Unknown, first.fuel),
+        // A run that starts as a v0 symbol has not the prefix of a legacy one.
+        Printed::NoSymbol => Tried::InVain(Some(Demangle::without_style(text)), first.fuel),
+        Printed::Unknown => Tried::InVain(None, first.fuel),
     }
 }
 
-/// Prints a run that is a legacy symbol, in one pass, and counts its looks. A run is ASCII.
-///
-/// Returns `false` if the run is not a legacy symbol, as `demangle_legacy::demangle_printed` does.
-/// Then an unknown part of the symbol may be in the sink, and `read_run` says what the run is.
+/// Prints a run that may be a legacy symbol, in one pass, as `demangle_legacy::demangle_printed` does,
+/// and counts its looks. A run is ASCII.
 #[inline(never)]
-pub fn print_legacy_run<S: TextSink>(
-    run: &str,
+fn print_legacy_first<'a, S: TextSink>(
+    run: &'a str,
     out: &mut S,
     format: Format,
     looks: &mut Looks,
-) -> bool
+) -> Tried<'a>
     requires run { list_all is_run_byte run.now ≡ true }
     requires not_failed { S.failed out.old ≡ false }
-    ensures took { IsTrue result →
+    ensures took { result ≡ Tried.Printed →
         S.took out.old (replacement_in format run.now) out.new }
+    ensures unknown { (result ≡ Tried.Printed) ⊎ IsUnknown result }
     ensures grows { looks.old ≤ looks.new }
     ensures most { looks.new ≤ looks.old + 18 * (length run.now + 1) }
 {
@@ -363,10 +352,41 @@ pub fn print_legacy_run<S: TextSink>(
     let mut limited = SizeLimitedFmtAdapter::new(out, limits.limit);
     let read = demangle_legacy::demangle_printed(text, &mut limited, limits.form, looks);
     let Some((_, suffix)) = read else {
-        return false;
+        return Tried::InVain(None, 0);
     };
-    let allowed = is_allowed(suffix, looks);
-    allowed && put_piece(suffix, out).is_ok()
+    if is_allowed(suffix, looks) && put_piece(suffix, out).is_ok() {
+        Tried::Printed
+    } else {
+        Tried::InVain(None, 0)
+    }
+}
+
+/// Prints a run before it is known to be a symbol, and counts its looks. A run is ASCII. Returns what is
+/// known of it then.
+#[inline(always)]
+pub fn print_first<'a, S: TextSink>(
+    run: &'a str,
+    out: &mut S,
+    format: Format,
+    looks: &mut RunLooks,
+) -> Tried<'a>
+    requires run { list_all is_run_byte run.now ≡ true }
+    requires not_failed { S.failed out.old ≡ false }
+    ensures took { result ≡ Tried.Printed →
+        S.took out.old (replacement_in format run.now) out.new }
+    ensures read { IsRunRead run.now result }
+    ensures grows { looks.old.accepting_looks ≤ looks.new.accepting_looks }
+    ensures most { looks.new.accepting_looks ≤ looks.old.accepting_looks + 143 * (length run.now + 1) }
+    ensures early { IsUnknown result → looks.new.accepting_looks
+        ≤ looks.old.accepting_looks + 88 * (length run.now + 1) }
+    ensures apart { looks.old.printing_looks ≤ looks.new.printing_looks }
+    ensures prints { PrintsLinear format 1 (length run.now) looks.old.printing_looks
+        looks.new.printing_looks }
+{
+    if starts_as_v0(run.as_bytes()) {
+        return print_v0_first(run, out, format, looks);
+    }
+    print_legacy_first(run, out, format, &mut looks.accepting_looks)
 }
 
 /// Prints a text into a sink; its path has `path_len` bytes. Fails if the sink fails.

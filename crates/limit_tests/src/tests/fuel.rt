@@ -2,7 +2,7 @@
 use demangle_sink::{ArraySink, SizeLimitedFmtAdapter};
 use demangle_symbol::cursor::RunLooks;
 use demangle_symbol::form::Form;
-use demangle_v0::{FirstPrint, Printed};
+use demangle_v0::{Extent, FirstPrint, Printed};
 use std::alloc::{AllocError, Global};
 use std::process::Abort;
 use std::test::Fail;
@@ -32,8 +32,8 @@ fn is_printed_first(text: &str, limit: usize, form: Form) -> bool {
         fuel: 0,
     };
     matches!(
-        demangle_v0::demangle_printed(text, &mut out, &mut first, looks),
-        Printed::Symbol(_, "x")
+        demangle_v0::print_first(text, &mut out, &mut first, looks),
+        Printed::Symbol(_, "x", Extent::Whole)
     )
 }
 
@@ -63,8 +63,8 @@ fn assert_prints_whole(rt: &impl Abort, symbol: &str, wanted: &str) {
         withheld: 0,
         fuel: 0,
     };
-    let printed = demangle_v0::demangle_printed(symbol, &mut out, &mut first, looks);
-    assert!(rt; matches!(printed, Printed::Symbol(_, "")), "of {symbol}");
+    let printed = demangle_v0::print_first(symbol, &mut out, &mut first, looks);
+    assert!(rt; matches!(printed, Printed::Symbol(_, "", Extent::Whole)), "of {symbol}");
     assert_eq!(rt; sink.as_str(), wanted, "of {symbol}");
 }
 
@@ -117,8 +117,8 @@ fn is_printed_within(symbol: &str, limit: usize, withheld: usize) -> bool {
         fuel: 0,
     };
     matches!(
-        demangle_v0::demangle_printed(symbol, &mut out, &mut first, looks),
-        Printed::Symbol(_, "")
+        demangle_v0::print_first(symbol, &mut out, &mut first, looks),
+        Printed::Symbol(_, "", Extent::Whole)
     )
 }
 
@@ -229,7 +229,7 @@ fn fuel_in_vain(text: &str) -> usize {
         withheld: 0,
         fuel: 0,
     };
-    match demangle_v0::demangle_printed(text, &mut out, &mut first, looks) {
+    match demangle_v0::print_first(text, &mut out, &mut first, looks) {
         Printed::NoSymbol => first.fuel,
         _ => 0,
     }

@@ -1,6 +1,8 @@
 //! Whether the runs of a text are printed before they are known to be symbols.
 ghost use Rattle.std.specs.Prelude.{◌≡◌, ◌-◌, ◌≤◌, ◌↔◌, IsTrue};
-ghost use Rattle.rustc_demangle.specs.Credit.{is_v0_run, owed_after};
+ghost use Rattle.rustc_demangle.specs.Credit.{owed_after};
+
+use demangle_value::value::printing::starts_as_v0;
 
 /// How many bytes of a run that was printed in vain cost one symbol.
 const BYTES_PER_SYMBOL: usize = 8;
@@ -13,14 +15,6 @@ const FUEL_PER_SYMBOL: usize = 32;
 
 /// How many symbols count for later runs.
 const MOST_SAVED: usize = 64;
-
-/// Returns whether a run, or a run with the `_` before it, starts as a v0 symbol.
-#[inline(always)]
-pub(super) fn starts_as_v0(run: &[u8]) -> bool
-    ensures { result ≡ is_v0_run run.now }
-{
-    (run.len() > 2) && ((run[1] == b'R') | ((run[1] == b'_') & (run[2] == b'R')))
-}
 
 /// Whether the runs of a text are printed first. After v0 runs that were printed in vain, they are
 /// not, until enough symbols were read for what these cost. So a text of such runs takes little

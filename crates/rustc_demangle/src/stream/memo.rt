@@ -8,15 +8,15 @@ ghost use Rattle.rustc_demangle.specs.PrintedRuns.{IsPrinted};
 ghost use Rattle.demangle_value.specs.LinearPrinting.{PrintsLinear};
 ghost use Rattle.demangle_value.specs.Stripped.{stripped};
 ghost use Rattle.demangle_value.specs.Symbols.{PrintingLooksIn, bounded_within, handed_in};
-ghost use Rattle.demangle_value.specs.Tried.{IsRunRead};
+ghost use Rattle.demangle_value.specs.Tried.{IsRunRead, IsUnknown};
 ghost use Rattle.text_memo.specs.Memo.{Remembers, IsSmall};
 
 use crate::stream::buffer_sink::BufferSink;
-use crate::stream::credit::{Credit, starts_as_v0};
+use crate::stream::credit::Credit;
 use crate::stream::line_writer::write_run;
 use demangle_symbol::cursor::{Looks, RunLooks};
 use demangle_value::format::{Format, MAX_SIZE, SizeLimit, TextFormat, unfolded_form};
-use demangle_value::value::printing::{Tried, print_legacy_run, print_v0_run};
+use demangle_value::value::printing::{Tried, print_first, starts_as_v0};
 use demangle_value::value::{Demangle, has_style, read_run};
 use piece_buffer::GrowingBuffer;
 use std::alloc::Global;
@@ -133,36 +133,27 @@ fn print_to_buffer(
 }
 
 /// Prints a run into the buffer before it is known to be a symbol, and counts its looks. Returns
-/// what is known of it then, and how much fuel its references used up. Unless it was printed, the
-/// buffer may have a part of it.
+/// what is known of it then. Unless it was printed, the buffer may have a part of it.
 #[inline(always)]
-fn print_first<'a>(
+fn try_print<'a>(
     run: &'a str,
     held: &mut GrowingBuffer,
     format: Format,
     looks: &mut RunLooks,
-) -> (Tried<'a>, usize)
-    requires run { list_all is_run_byte run.now ≡ true }
-    requires some { 1 < length run.now }
-    ensures printed { result.0 ≡ Tried.Printed → held.new ≡ replacement_in format run.now }
-    ensures read { IsRunRead run.now result.0 }
+) -> Tried<'a>
+    requires { list_all is_run_byte run.now ≡ true }
+    ensures printed { result ≡ Tried.Printed → held.new ≡ replacement_in format run.now }
+    ensures read { IsRunRead run.now result }
     ensures grows { LooksGrow looks.old looks.new }
     ensures most { looks.new.accepting_looks ≤ looks.old.accepting_looks + 143 * (length run.now + 1) }
-    ensures early { result.0 ≡ Tried.Unknown → looks.new.accepting_looks
-        ≤ looks.old.accepting_looks + 85 * (length run.now + 1) + 8 }
+    ensures early { IsUnknown result → looks.new.accepting_looks
+        ≤ looks.old.accepting_looks + 88 * (length run.now + 1) }
     ensures prints { PrintsLinear format 1 (length run.now) looks.old.printing_looks
         looks.new.printing_looks }
 {
     held.clear();
     let mut sink = BufferSink::new(held);
-    if starts_as_v0(run.as_bytes()) {
-        return print_v0_run(run, &mut sink, format, looks);
-    }
-    if print_legacy_run(run, &mut sink, format, &mut looks.accepting_looks) {
-        (Tried::Printed, 0)
-    } else {
-        (Tried::Unknown, 0)
-    }
+    print_first(run, &mut sink, format, looks)
 }
 
 /// How the text of a run was found.
@@ -177,13 +168,11 @@ enum Printed {
     NotHeld,
 }
 
-/// Returns whether a run is looked up. It must start as a v0 symbol, or end with the hash of a
-/// legacy symbol or the digit of a suffix. It must not be too short or too long. Most other runs
-/// are not symbols.
+/// Returns whether a run is looked up, and printed first. It must start as a v0 symbol, or end with
+/// the hash of a legacy symbol or the digit of a suffix. It must not be too short or too long. Most
+/// other runs are not symbols.
 #[inline(always)]
-fn is_looked_up(run: &[u8]) -> bool
-    ensures { IsTrue result → 1 < length run.now }
-{
+fn is_looked_up(run: &[u8]) -> bool {
     if run.len() < 20 || run.len() > MAX_KEY {
         return false;
     }
@@ -206,7 +195,6 @@ impl Store {
         looks: &mut RunLooks,
     ) -> Option<Demangle<'a>>
         requires run { list_all is_run_byte run.now ≡ true }
-        requires some { is_first ≡ true → 1 < length run.now }
         ensures printed { IfNone result (self.new.printed ≡ replacement_in self.old.format run.now) }
         ensures read { IfSome result (λ symbol. symbol ≡ stripped run.now) }
         ensures texts { self.new.texts ≡ self.old.texts }
@@ -229,17 +217,18 @@ impl Store {
             }
             return Some(symbol);
         }
-        let (tried, fuel) = print_first(run, &mut self.printed, self.format, looks);
-        let symbol = match tried {
+        let (read, fuel) = match try_print(run, &mut self.printed, self.format, looks) {
             Tried::Printed => {
                 self.credit.gain();
                 return None;
             }
-            Tried::Read(symbol) => symbol,
-            Tried::Unknown => read_run(run, &mut looks.accepting_looks),
+            Tried::InVain(read, fuel) => (read, fuel),
         };
         self.credit.lose(run, self.printed.len(), fuel);
-        Some(symbol)
+        match read {
+            Some(symbol) => Some(symbol),
+            None => Some(read_run(run, &mut looks.accepting_looks)),
+        }
     }
 
     /// Prints a run into the buffer, as `print_or_read` does, or after that has read it. Counts its
@@ -248,7 +237,6 @@ impl Store {
     #[inline(always)]
     fn print(&mut self, run: &str, is_first: bool, looks: &mut RunLooks) -> Printed
         requires run { list_all is_run_byte run.now ≡ true }
-        requires some { is_first ≡ true → 1 < length run.now }
         ensures text { IsPrinted self.old.format run.now result self.new.printed }
         ensures texts { self.new.texts ≡ self.old.texts }
         ensures format { self.new.format ≡ self.old.format }

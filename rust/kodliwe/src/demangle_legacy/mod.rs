@@ -30,6 +30,8 @@ fn inner_of(s: &str) -> Option<&str> {
 
 /// Returns the text after the prefix of a legacy symbol, if that text is ASCII. `is_ascii` says
 /// that the text is known to be ASCII. In that case it is not tested.
+// It is inlined, since most texts that are asked about have no prefix.
+#[cfg_attr(not(debug_assertions), inline(always))]
 fn ascii_inner_of(s: &str, is_ascii: bool) -> Option<&str> {
     let inner = inner_of(s)?;
     if is_ascii {
@@ -47,6 +49,8 @@ fn ascii_inner_of(s: &str, is_ascii: bool) -> Option<&str> {
 /// # Errors
 ///
 /// Returns `Err` if the text is not a legacy symbol.
+// As a call, it leaves the caller that reads both schemes small enough to be inlined.
+#[inline(never)]
 pub fn demangle(s: &str, is_ascii: bool) -> Result<(Demangle<'_>, &str), ()> {
     // A length counts bytes. In other text, an element could end within a character.
     let Some(inner) = ascii_inner_of(s, is_ascii) else {

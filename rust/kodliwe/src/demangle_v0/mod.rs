@@ -2,13 +2,21 @@
 //! v0 symbols (RFC 2603): a prefix, one path or two, then a suffix.
 
 #[cfg(feature = "stream")]
-use crate::demangle_sink::{SizeLimitedFmtAdapter, TextSink};
+use crate::demangle_sink::{SinkRefused, SizeLimitedFmtAdapter, TextSink};
 use crate::demangle_symbol::cursor::{ParseError, Symbol};
 #[cfg(feature = "stream")]
 use crate::demangle_symbol::form::Form;
 #[cfg(feature = "stream")]
-use crate::demangle_v0::validation::{Attempt, print_to_suffix};
+use crate::demangle_v0::stacks::SHORT_STACK;
+#[cfg(feature = "stream")]
+use crate::demangle_v0::validation::print_or_validate;
 use crate::demangle_v0::validation::{begins_path, suffix_at};
+#[cfg(feature = "stream")]
+use crate::demangle_v0_parser::frames::UNUSED_FRAME;
+#[cfg(feature = "stream")]
+use crate::demangle_v0_parser::fuel::Fuel;
+#[cfg(feature = "stream")]
+use crate::demangle_v0_parser::parse::Parser;
 #[cfg(feature = "stream")]
 use crate::demangle_v0_tokens::source::Source;
 
@@ -76,16 +84,24 @@ pub fn demangle(s: &str, is_ascii: bool) -> Result<(Demangle<'_>, &str), ParseEr
     Ok((Demangle::new(symbol), &inner[end..]))
 }
 
+/// How much of the first path of a symbol was printed.
+#[cfg(feature = "stream")]
+#[derive(Clone, Copy)]
+pub enum Extent {
+    /// The whole path.
+    Whole,
+    /// The path up to a limit.
+    Cut,
+    /// An unknown part of the path.
+    Part,
+}
+
 /// What is known of a text whose first path was printed before it was known to be a symbol.
 #[cfg(feature = "stream")]
 #[derive(Clone, Copy)]
 pub enum Printed<'s> {
-    /// The text is this symbol with this suffix, and its first path was printed.
-    Symbol(Demangle<'s>, &'s str),
-    /// The text is this symbol with this suffix, and its first path was printed up to a limit.
-    Cut(Demangle<'s>, &'s str),
-    /// The text is this symbol with this suffix. A part of the first path may be printed.
-    Part(Demangle<'s>, &'s str),
+    /// The text is this symbol with this suffix, and so much of its first path was printed.
+    Symbol(Demangle<'s>, &'s str, Extent),
     /// The text is not a symbol. A part of a path may be printed.
     NoSymbol,
     /// The limit or the sink rejected a piece, or the limit a reference, before it was known whether
@@ -100,18 +116,19 @@ pub struct FirstPrint {
     pub form: Form,
     /// How many more bytes may be passed to the sink after the text was validated.
     pub withheld: usize,
-    /// How much fuel the references of a path used up that was not printed.
+    /// How much fuel the references of the path used up.
     pub fuel: usize,
 }
 
-/// Reads a v0 symbol and prints its first path: with hashes or without them, and with its generic
-/// arguments or with `_` for them. Returns what is known of the text then, which must be ASCII.
+/// Prints the first path of a v0 symbol before the text is known to be one: with hashes or without
+/// them, and with its generic arguments or with `_` for them. Returns what is known of the text
+/// then, which must be ASCII, and sets the fuel of `first`.
 ///
-/// If the path has few references, the text is read once. Otherwise, and after an error, the text
-/// is validated before the rest of the path is printed, and more bytes may be passed to the sink
-/// then. A path that is nested deeply may be printed in part.
+/// The path is printed until its fuel is used up. If it has few references, the text is read once.
+/// Otherwise, and after an error, the text is validated before the rest of the path is printed, and
+/// more bytes may be passed to the sink then. A path that is nested deeply may be printed in part.
 #[cfg(feature = "stream")]
-pub fn demangle_printed<'s, S: TextSink>(
+pub fn print_first<'s, S: TextSink>(
     s: &'s str,
     out: &mut SizeLimitedFmtAdapter<'_, S>,
     first: &mut FirstPrint,
@@ -127,11 +144,15 @@ pub fn demangle_printed<'s, S: TextSink>(
         symbol: &symbol,
         form: first.form,
     };
-    match print_to_suffix(source, out, first) {
-        Attempt::Printed(end) => Printed::Symbol(Demangle::new(symbol), &inner[end..]),
-        Attempt::Cut(end) => Printed::Cut(Demangle::new(symbol), &inner[end..]),
-        Attempt::Read(end) => Printed::Part(Demangle::new(symbol), &inner[end..]),
-        Attempt::NoPath => Printed::NoSymbol,
-        Attempt::Unknown => Printed::Unknown,
+    let mut memory = [UNUSED_FRAME; SHORT_STACK];
+    let mut parser = Parser::at_path(source, 0, &mut memory);
+    parser.fuel = Fuel::for_run(symbol.len());
+    let path = print_or_validate(&mut parser, out, first.withheld);
+
+    first.fuel = parser.fuel.used_within();
+    match path {
+        Ok(Some(path)) => Printed::Symbol(Demangle::new(symbol), &inner[path.end..], path.extent),
+        Ok(None) => Printed::NoSymbol,
+        Err(SinkRefused) => Printed::Unknown,
     }
 }

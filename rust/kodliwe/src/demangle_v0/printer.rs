@@ -2,6 +2,8 @@
 //! Prints the first path of a v0 symbol. Each step prints what it reads as soon as it is known.
 
 use crate::demangle_sink::{SinkRefused, SizeLimitedFmtAdapter, TextSink};
+#[cfg(feature = "stream")]
+use crate::demangle_v0::Extent;
 use crate::demangle_v0::held_texts::{
     MOST_TEXTS, PrintScope, StoredText, UNUSED_TEXT, end_note, run_target, start_note,
 };
@@ -128,7 +130,7 @@ fn print_noting<S: TextSink>(
 /// fuel is used up. Returns what is left then.
 ///
 /// Fails at the first piece that the limit or the sink rejects.
-fn print_steps<S: TextSink>(
+pub fn print_steps<S: TextSink>(
     parser: &mut Parser<'_, '_>,
     out: &mut SizeLimitedFmtAdapter<'_, S>,
     has_budget: bool,
@@ -221,18 +223,6 @@ pub fn print_path<S: TextSink>(
     }
 }
 
-/// Prints until nothing is left, the fuel is used up, or the stack is full. Returns what is left.
-///
-/// Fails at the first piece that the limit or the sink rejects.
-#[cfg(feature = "stream")]
-#[cfg_attr(not(debug_assertions), inline(always))]
-pub fn print_within<S: TextSink>(
-    parser: &mut Parser<'_, '_>,
-    out: &mut SizeLimitedFmtAdapter<'_, S>,
-) -> Result<Option<Unfinished>, SinkRefused> {
-    print_steps(parser, out, true)
-}
-
 /// Returns the place after a path that was printed within the budget. Returns `None` if anything
 /// is left of it or no fuel is left, as after an error.
 #[cfg(feature = "stream")]
@@ -244,16 +234,25 @@ pub fn end_within(parser: &Parser<'_, '_>, left: Option<Unfinished>) -> Option<u
     }
 }
 
-/// Prints what is left of a valid symbol, in larger stacks if this one is full.
-///
-/// Fails at the first piece that the limit or the sink rejects.
+/// Prints what is left of a valid symbol, with `withheld` more bytes, in larger stacks if this one
+/// is full. Returns how much of the path was printed.
 #[cfg(feature = "stream")]
 #[inline(never)]
-pub fn print_validated<S: TextSink>(
+pub fn print_rest<S: TextSink>(
     parser: &mut Parser<'_, '_>,
     out: &mut SizeLimitedFmtAdapter<'_, S>,
-) -> Result<(), SinkRefused> {
+    withheld: usize,
+) -> Extent {
+    let are_all_allowed = out.allow_more(withheld);
     parser.fuel = Fuel::none();
 
-    print_path(parser, out)
+    let printed = print_path(parser, out);
+
+    if printed.is_ok() {
+        Extent::Whole
+    } else if are_all_allowed && out.is_limit_reached() {
+        Extent::Cut
+    } else {
+        Extent::Part
+    }
 }

@@ -2,19 +2,17 @@
 //! Validates v0 symbols: parses them without output, and finds the suffix.
 
 #[cfg(feature = "stream")]
-use crate::demangle_sink::{SizeLimitedFmtAdapter, TextSink};
+use crate::demangle_sink::{SinkRefused, SizeLimitedFmtAdapter, TextSink};
 use crate::demangle_symbol::cursor::Symbol;
 use crate::demangle_symbol::form::Form;
 #[cfg(feature = "stream")]
-use crate::demangle_v0::FirstPrint;
+use crate::demangle_v0::Extent;
 #[cfg(feature = "stream")]
-use crate::demangle_v0::printer::{end_within, print_validated, print_within};
+use crate::demangle_v0::printer::{end_within, print_rest, print_steps};
 use crate::demangle_v0::reading::read_steps;
 use crate::demangle_v0::stacks::{FULL_STACK, MIDDLE_STACK, SHORT_STACK};
 
 use crate::demangle_v0_parser::frames::UNUSED_FRAME;
-#[cfg(feature = "stream")]
-use crate::demangle_v0_parser::fuel::Fuel;
 use crate::demangle_v0_parser::parse::Parser;
 use crate::demangle_v0_parser::stops::ReadOutcome;
 #[cfg(feature = "stream")]
@@ -104,100 +102,67 @@ pub fn begins_path(symbol: &Symbol<'_>, place: usize) -> bool {
     matches!(symbol.byte(place,), Some(b'A'..=b'Z'))
 }
 
-/// What is known of a symbol whose first path was printed before it was validated.
-#[cfg(feature = "stream")]
-#[derive(Clone, Copy)]
-pub enum Attempt {
-    /// The first path was printed, and the suffix begins at this place.
-    Printed(usize),
-    /// The suffix begins at this place, and the first path was printed up to a limit.
-    Cut(usize),
-    /// The suffix begins at this place. A part of the first path may be printed.
-    Read(usize),
-    /// A path has an error. A part of the first path may be printed.
-    NoPath,
-    /// The limit or the sink rejected a piece, or the limit a reference.
-    Unknown,
-}
-
 /// Returns whether a suffix may begin at a place: the end, or a `.`.
 #[cfg(feature = "stream")]
 fn may_begin_suffix(symbol: &Symbol<'_>, place: usize) -> bool {
     place == symbol.len() || symbol.is_at(b'.', place)
 }
 
-/// Reads a second path after the first one, which was printed and ends at a place.
+/// Reads a second path after the first one, which ends at a place. Returns the place of the suffix,
+/// or `None` if the second path has an error.
 #[cfg(feature = "stream")]
 #[cfg_attr(not(debug_assertions), inline(always))]
-fn after_first_path(parser: &mut Parser<'_, '_>, end: usize) -> Attempt {
+fn end_after(parser: &mut Parser<'_, '_>, end: usize) -> Option<usize> {
     if !begins_path(parser.source.symbol, end) {
-        return Attempt::Printed(end);
+        return Some(end);
     }
     // Arguments are folded only when they are printed.
     parser.source.form.fold_arguments = false;
     parser.stack.truncate(0);
-    match path_end(parser, end) {
-        Some(end) => Attempt::Printed(end),
-        None => Attempt::NoPath,
-    }
+    path_end(parser, end)
 }
 
-/// Prints the first path, at which the parser is, and reads a second one, as `print_to_suffix` does.
+/// A symbol whose first path was printed before it was validated.
+#[cfg(feature = "stream")]
+#[derive(Clone, Copy)]
+pub struct FirstPath {
+    /// The place of the suffix.
+    pub end: usize,
+    /// How much of the path was printed.
+    pub extent: Extent,
+}
+
+/// Prints the first path, at which the parser is, and reads a second one. Returns the symbol, or
+/// `None` if a path has an error. Then a part of the first path may be printed.
+///
+/// The path is printed before it is known whether the symbol is valid, until the fuel is used up.
+/// Then the symbol is validated, and only the rest of a valid one is printed, with `withheld` more
+/// bytes.
+///
+/// Fails if the limit or the sink rejects a piece, or the limit a reference, before that.
 #[cfg(feature = "stream")]
 #[cfg_attr(not(debug_assertions), inline(always))]
-fn printed_first<S: TextSink>(
+pub fn print_or_validate<S: TextSink>(
     parser: &mut Parser<'_, '_>,
     out: &mut SizeLimitedFmtAdapter<'_, S>,
     withheld: usize,
-) -> Attempt {
-    let Ok(left) = print_within(parser, out) else {
-        return Attempt::Unknown;
-    };
+) -> Result<Option<FirstPath>, SinkRefused> {
+    let left = print_steps(parser, out, true)?;
     if let Some(end) = end_within(parser, left) {
-        return after_first_path(parser, end);
+        let Some(end) = end_after(parser, end) else {
+            return Ok(None);
+        };
+        let extent = Extent::Whole;
+        return Ok(Some(FirstPath { end, extent }));
     }
     let Some(end) = suffix_at(parser.source.symbol) else {
-        return Attempt::NoPath;
+        return Ok(None);
     };
-    if !may_begin_suffix(parser.source.symbol, end) {
-        return Attempt::Read(end);
-    }
-    match left {
-        None => Attempt::Printed(end),
-        Some(Unfinished::Printing) => {
-            let are_all_allowed = out.allow_more(withheld);
-            if print_validated(parser, out).is_ok() {
-                Attempt::Printed(end)
-            } else if are_all_allowed && out.is_limit_reached() {
-                Attempt::Cut(end)
-            } else {
-                Attempt::Read(end)
-            }
-        }
-        Some(Unfinished::Skipping(_, _)) => Attempt::Read(end),
-    }
-}
-
-/// Prints the first path of a symbol, and reads a second one. Returns what is known of the symbol
-/// then.
-///
-/// The path is printed before it is known whether the symbol is valid, until the fuel is used up.
-/// Then the symbol is validated, and only the rest of a valid one is printed, with the bytes that
-/// `first` withheld. If the path was not printed, the fuel of `first` is set.
-#[cfg(feature = "stream")]
-pub fn print_to_suffix<S: TextSink>(
-    source: Source<'_>,
-    out: &mut SizeLimitedFmtAdapter<'_, S>,
-    first: &mut FirstPrint,
-) -> Attempt {
-    let mut memory = [UNUSED_FRAME; SHORT_STACK];
-    let mut parser = Parser::at_path(source, 0, &mut memory);
-    parser.fuel = Fuel::for_run(source.symbol.len());
-    let result = printed_first(&mut parser, out, first.withheld);
-
-    match result {
-        Attempt::Printed(_) => {}
-        _ => first.fuel = parser.fuel.used_within(),
-    }
-    result
+    let is_suffix = may_begin_suffix(parser.source.symbol, end);
+    let extent = match left {
+        None => Extent::Whole,
+        Some(Unfinished::Printing) if is_suffix => print_rest(parser, out, withheld),
+        Some(_) => Extent::Part,
+    };
+    Ok(Some(FirstPath { end, extent }))
 }

@@ -9,7 +9,7 @@ use crate::demangle_value::value::is_allowed;
 use crate::demangle_value::value::{Demangle, DemangleStyle};
 
 #[cfg(feature = "stream")]
-use crate::demangle_v0::{FirstPrint, Printed};
+use crate::demangle_v0::{Extent, FirstPrint, Printed};
 
 /// Prints a symbol without its suffix into a sink, cut at the limit. Fails if the sink fails.
 fn write_cut<S: TextSink>(
@@ -155,31 +155,32 @@ fn text_withheld(format: TextFormat, limit: usize) -> usize {
     format.limit.saturating_sub(limit)
 }
 
+/// Returns whether a run, or a run with the `_` before it, starts as a v0 symbol.
+#[cfg(feature = "stream")]
+#[cfg_attr(not(debug_assertions), inline(always))]
+pub fn starts_as_v0(run: &[u8]) -> bool {
+    (run.len() > 2) && ((run[1] == b'R') | ((run[1] == b'_') & (run[2] == b'R')))
+}
+
 /// What is known of a run that was printed before it was known to be a symbol.
 #[cfg(feature = "stream")]
 #[derive(Clone, Copy)]
 pub enum Tried<'a> {
     /// The run is a symbol, and its text was printed.
     Printed,
-    /// The run was read as this text, symbol or not. A part of a path may be printed.
-    Read(Demangle<'a>),
-    /// Nothing is known, and a part of a path may be printed. `read_run` says what the run is.
-    Unknown,
+    /// A part of a path may be printed, whose references used up so much fuel. The run was read as
+    /// this text, symbol or not. If there is none, `read_run` says what the run is.
+    InVain(Option<Demangle<'a>>, usize),
 }
 
-/// Prints a v0 run before it is known to be a symbol, as `demangle_v0::demangle_printed` does. A
-/// run is ASCII. Returns what is known of it then, and how much fuel the references of one that was
-/// not printed used up.
+/// Prints a v0 run before it is known to be a symbol, as `demangle_v0::print_first` does. A run is
+/// ASCII.
 ///
 /// Nothing is known of a path that is much longer than the run, unless the run was validated before
 /// its end was printed.
 #[cfg(feature = "stream")]
 #[inline(never)]
-pub fn print_v0_run<'a, S: TextSink>(
-    run: &'a str,
-    out: &mut S,
-    format: Format,
-) -> (Tried<'a>, usize) {
+fn print_v0_first<'a, S: TextSink>(run: &'a str, out: &mut S, format: Format) -> Tried<'a> {
     let text = without_thin_lto(run);
     let limits = TextFormat::for_text(format, text.len());
     let limit = text_limit(run, limits);
@@ -189,65 +190,64 @@ pub fn print_v0_run<'a, S: TextSink>(
         withheld: text_withheld(limits, limit),
         fuel: 0,
     };
-    match crate::demangle_v0::demangle_printed(text, &mut limited, &mut first) {
-        Printed::Symbol(symbol, suffix) => {
+    match crate::demangle_v0::print_first(text, &mut limited, &mut first) {
+        Printed::Symbol(symbol, suffix, extent) => {
             let allowed = is_allowed(suffix);
-            if allowed && put_piece(suffix, out).is_ok() {
-                return (Tried::Printed, 0);
-            }
-            let style = DemangleStyle::V0(symbol);
-            let read = Demangle::with_style(text, style, suffix, allowed);
-            (Tried::Read(read), first.fuel)
-        }
-        Printed::Cut(symbol, suffix) => {
-            let allowed = is_allowed(suffix);
-            // With a greater limit, the path was not printed up to it.
-            if allowed && limits.limit <= MAX_SIZE {
-                let marked = put_piece("{size limit reached}", out);
-                if marked.is_ok() && put_piece(suffix, out).is_ok() {
-                    return (Tried::Printed, 0);
+            if allowed {
+                match extent {
+                    Extent::Whole => {
+                        if put_piece(suffix, out).is_ok() {
+                            return Tried::Printed;
+                        }
+                    }
+                    // With a greater limit, the path was not printed up to it.
+                    Extent::Cut if limits.limit <= MAX_SIZE => {
+                        let marked = put_piece("{size limit reached}", out);
+                        if marked.is_ok() && put_piece(suffix, out).is_ok() {
+                            return Tried::Printed;
+                        }
+                    }
+                    Extent::Cut | Extent::Part => {}
                 }
             }
             let style = DemangleStyle::V0(symbol);
             let read = Demangle::with_style(text, style, suffix, allowed);
-            (Tried::Read(read), first.fuel)
+            Tried::InVain(Some(read), first.fuel)
         }
-        Printed::Part(symbol, suffix) => {
-            let allowed = is_allowed(suffix);
-            let style = DemangleStyle::V0(symbol);
-            let read = Demangle::with_style(text, style, suffix, allowed);
-            (Tried::Read(read), first.fuel)
-        }
-        // A text with the prefix of v0 has not that of the legacy scheme, so this ends at once.
-        Printed::NoSymbol => match crate::demangle_legacy::demangle(text, true) {
-            Ok((symbol, suffix)) => {
-                let allowed = is_allowed(suffix);
-                let style = DemangleStyle::Legacy(symbol);
-                let read = Demangle::with_style(text, style, suffix, allowed);
-                (Tried::Read(read), first.fuel)
-            }
-            Err(()) => (Tried::Read(Demangle::without_style(text)), first.fuel),
-        },
-        Printed::Unknown => (Tried::Unknown, first.fuel),
+        // A run that starts as a v0 symbol has not the prefix of a legacy one.
+        Printed::NoSymbol => Tried::InVain(Some(Demangle::without_style(text)), first.fuel),
+        Printed::Unknown => Tried::InVain(None, first.fuel),
     }
 }
 
-/// Prints a run that is a legacy symbol, in one pass. A run is ASCII.
-///
-/// Returns `false` if the run is not a legacy symbol, as `demangle_legacy::demangle_printed` does.
-/// Then an unknown part of the symbol may be in the sink, and `read_run` says what the run is.
+/// Prints a run that may be a legacy symbol, in one pass, as `demangle_legacy::demangle_printed`
+/// does. A run is ASCII.
 #[cfg(feature = "stream")]
 #[inline(never)]
-pub fn print_legacy_run<S: TextSink>(run: &str, out: &mut S, format: Format) -> bool {
+fn print_legacy_first<'a, S: TextSink>(run: &'a str, out: &mut S, format: Format) -> Tried<'a> {
     let text = without_thin_lto(run);
     let limits = TextFormat::for_text(format, text.len());
     let mut limited = SizeLimitedFmtAdapter::new(out, limits.limit);
     let read = crate::demangle_legacy::demangle_printed(text, &mut limited, limits.form);
     let Some((_, suffix)) = read else {
-        return false;
+        return Tried::InVain(None, 0);
     };
-    let allowed = is_allowed(suffix);
-    allowed && put_piece(suffix, out).is_ok()
+    if is_allowed(suffix) && put_piece(suffix, out).is_ok() {
+        Tried::Printed
+    } else {
+        Tried::InVain(None, 0)
+    }
+}
+
+/// Prints a run before it is known to be a symbol. A run is ASCII. Returns what is known of it
+/// then.
+#[cfg(feature = "stream")]
+#[cfg_attr(not(debug_assertions), inline(always))]
+pub fn print_first<'a, S: TextSink>(run: &'a str, out: &mut S, format: Format) -> Tried<'a> {
+    if starts_as_v0(run.as_bytes()) {
+        return print_v0_first(run, out, format);
+    }
+    print_legacy_first(run, out, format)
 }
 
 /// Prints a text into a sink; its path has `path_len` bytes. Fails if the sink fails.

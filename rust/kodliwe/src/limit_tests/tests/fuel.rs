@@ -5,7 +5,7 @@ use crate::support::rt::HostRuntime;
 use crate::support::string::String;
 
 use crate::demangle_symbol::form::Form;
-use crate::demangle_v0::{FirstPrint, Printed};
+use crate::demangle_v0::{Extent, FirstPrint, Printed};
 use crate::support::alloc::{AllocError, Global};
 
 use crate::support::test::Fail;
@@ -35,8 +35,8 @@ fn is_printed_first(text: &str, limit: usize, form: Form) -> bool {
         fuel: 0,
     };
     matches!(
-        crate::demangle_v0::demangle_printed(text, &mut out, &mut first,),
-        Printed::Symbol(_, "x")
+        crate::demangle_v0::print_first(text, &mut out, &mut first,),
+        Printed::Symbol(_, "x", Extent::Whole)
     )
 }
 
@@ -66,8 +66,11 @@ fn assert_prints_whole(symbol: &str, wanted: &str) {
         withheld: 0,
         fuel: 0,
     };
-    let printed = crate::demangle_v0::demangle_printed(symbol, &mut out, &mut first);
-    assert!(matches!(printed, Printed::Symbol(_, "")), "of {symbol}");
+    let printed = crate::demangle_v0::print_first(symbol, &mut out, &mut first);
+    assert!(
+        matches!(printed, Printed::Symbol(_, "", Extent::Whole)),
+        "of {symbol}"
+    );
     assert_eq!(sink.as_str(), wanted, "of {symbol}");
 }
 
@@ -120,8 +123,8 @@ fn is_printed_within(symbol: &str, limit: usize, withheld: usize) -> bool {
         fuel: 0,
     };
     matches!(
-        crate::demangle_v0::demangle_printed(symbol, &mut out, &mut first,),
-        Printed::Symbol(_, "")
+        crate::demangle_v0::print_first(symbol, &mut out, &mut first,),
+        Printed::Symbol(_, "", Extent::Whole)
     )
 }
 
@@ -234,7 +237,7 @@ fn fuel_in_vain(text: &str) -> usize {
         withheld: 0,
         fuel: 0,
     };
-    match crate::demangle_v0::demangle_printed(text, &mut out, &mut first) {
+    match crate::demangle_v0::print_first(text, &mut out, &mut first) {
         Printed::NoSymbol => first.fuel,
         _ => 0,
     }

@@ -1,6 +1,8 @@
 // Made from crates/rustc_demangle/src/stream/credit.rt by packaging/crate/erase.py: edit that file instead.
 //! Whether the runs of a text are printed before they are known to be symbols.
 
+use crate::demangle_value::value::printing::starts_as_v0;
+
 /// How many bytes of a run that was printed in vain cost one symbol.
 const BYTES_PER_SYMBOL: usize = 8;
 
@@ -12,12 +14,6 @@ const FUEL_PER_SYMBOL: usize = 32;
 
 /// How many symbols count for later runs.
 const MOST_SAVED: usize = 64;
-
-/// Returns whether a run, or a run with the `_` before it, starts as a v0 symbol.
-#[cfg_attr(not(debug_assertions), inline(always))]
-pub(super) fn starts_as_v0(run: &[u8]) -> bool {
-    (run.len() > 2) && ((run[1] == b'R') | ((run[1] == b'_') & (run[2] == b'R')))
-}
 
 /// Whether the runs of a text are printed first. After v0 runs that were printed in vain, they are
 /// not, until enough symbols were read for what these cost. So a text of such runs takes little

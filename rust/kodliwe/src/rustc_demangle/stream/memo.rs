@@ -2,11 +2,11 @@
 //! Remembers the symbols that a filter printed.
 
 use crate::rustc_demangle::stream::buffer_sink::BufferSink;
-use crate::rustc_demangle::stream::credit::{Credit, starts_as_v0};
+use crate::rustc_demangle::stream::credit::Credit;
 use crate::rustc_demangle::stream::line_writer::write_run;
 
 use crate::demangle_value::format::{Format, MAX_SIZE, SizeLimit, TextFormat, unfolded_form};
-use crate::demangle_value::value::printing::{Tried, print_legacy_run, print_v0_run};
+use crate::demangle_value::value::printing::{Tried, print_first, starts_as_v0};
 use crate::demangle_value::value::{Demangle, has_style, read_run};
 use crate::piece_buffer::GrowingBuffer;
 use crate::support::alloc::Global;
@@ -96,20 +96,12 @@ fn print_to_buffer(symbol: &Demangle<'_>, held: &mut GrowingBuffer, format: Form
 }
 
 /// Prints a run into the buffer before it is known to be a symbol. Returns what is known of it
-/// then, and how much fuel its references used up. Unless it was printed, the buffer may have a
-/// part of it.
+/// then. Unless it was printed, the buffer may have a part of it.
 #[cfg_attr(not(debug_assertions), inline(always))]
-fn print_first<'a>(run: &'a str, held: &mut GrowingBuffer, format: Format) -> (Tried<'a>, usize) {
+fn try_print<'a>(run: &'a str, held: &mut GrowingBuffer, format: Format) -> Tried<'a> {
     held.clear();
     let mut sink = BufferSink::new(held);
-    if starts_as_v0(run.as_bytes()) {
-        return print_v0_run(run, &mut sink, format);
-    }
-    if print_legacy_run(run, &mut sink, format) {
-        (Tried::Printed, 0)
-    } else {
-        (Tried::Unknown, 0)
-    }
+    print_first(run, &mut sink, format)
 }
 
 /// How the text of a run was found.
@@ -124,9 +116,9 @@ enum Printed {
     NotHeld,
 }
 
-/// Returns whether a run is looked up. It must start as a v0 symbol, or end with the hash of a
-/// legacy symbol or the digit of a suffix. It must not be too short or too long. Most other runs
-/// are not symbols.
+/// Returns whether a run is looked up, and printed first. It must start as a v0 symbol, or end with
+/// the hash of a legacy symbol or the digit of a suffix. It must not be too short or too long. Most
+/// other runs are not symbols.
 #[cfg_attr(not(debug_assertions), inline(always))]
 fn is_looked_up(run: &[u8]) -> bool {
     if run.len() < 20 || run.len() > MAX_KEY {
@@ -156,17 +148,18 @@ impl Store {
             }
             return Some(symbol);
         }
-        let (tried, fuel) = print_first(run, &mut self.printed, self.format);
-        let symbol = match tried {
+        let (read, fuel) = match try_print(run, &mut self.printed, self.format) {
             Tried::Printed => {
                 self.credit.gain();
                 return None;
             }
-            Tried::Read(symbol) => symbol,
-            Tried::Unknown => read_run(run),
+            Tried::InVain(read, fuel) => (read, fuel),
         };
         self.credit.lose(run, self.printed.len(), fuel);
-        Some(symbol)
+        match read {
+            Some(symbol) => Some(symbol),
+            None => Some(read_run(run)),
+        }
     }
 
     /// Prints a run into the buffer, as `print_or_read` does, or after that has read it. If the

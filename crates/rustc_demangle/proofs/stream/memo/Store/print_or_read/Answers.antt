@@ -1,9 +1,5 @@
 use Rattle.std.proofs.Common.{arith}
-use Rattle.std.proofs.lemmas.Grind.{common_steps}
 use Rattle.rustc_demangle.proofs.stream.memo.Store.print_or_read.Goals as goal
 
-pub returns-clause-read : goal.returns-clause-read
-returns-clause-read c = grind (arith, common_steps)
-
-pub returns-clause-most : goal.returns-clause-most
-returns-clause-most c = grind (arith, common_steps)
+pub returns-in-None-clause-most : goal.returns-in-None-clause-most
+returns-in-None-clause-most c = omega (arith, c.read_run.ensures.most, (rw c.in-None.is at c.in-InVain.ensures.early) tt)

@@ -4,7 +4,6 @@ use Rattle.std.proofs.Common.{◌≡◌, ℕ, true, List, [], ◌∷◌, ◌++�
 use Rattle.std.proofs.lemmas.Bool.{false≢true}
 use Rattle.demangle_legacy.specs.Legacy.{legacy_of}
 use Rattle.demangle_legacy.specs.Unescaped.{legacy_pieces}
-use Rattle.demangle_value.specs.Shape.{limited}
 use Rattle.demangle_legacy.proofs.LegacyLaws.{legacy_read}
 use Rattle.demangle_sink.specs.Cut.{cut}
 use Rattle.demangle_sink.specs.declared.SinkRefused.{SinkRefused}
@@ -21,7 +20,7 @@ use Rattle.demangle_value.proofs.RunLemmas.{symbol_replaced}
 use Rattle.demangle_value.proofs.PrintingLaws.{handed-some_of}
 use Rattle.demangle_value.proofs.Stripping.{IsAscii-stripped, stripped-shorter}
 use Rattle.demangle_value.proofs.SymbolLemmas.{pieces-legacy}
-use Rattle.demangle_value.proofs.value.printing.print_legacy_run.Goals as goal
+use Rattle.demangle_value.proofs.value.printing.print_legacy_first.Goals as goal
 
 -- the text that a legacy symbol prints replaces its run
 legacy_replaced : (run text : List ℕ) (elements : List (List ℕ)) (suffix : List ℕ) (format : Format) → text ≡ stripped run → legacy_of text ≡ Some (elements, suffix) → is_allowed suffix ≡ true
@@ -44,8 +43,8 @@ when_ok : {P : Type 0} (r : Result (Unit {0}) SinkRefused) → is_ok r ≡ true 
 when_ok (Ok u) e p = p
 when_ok (Err f) e p = absurd (false≢true e)
 
-pub returns-then-allowed-clause-took : goal.returns-then-allowed-clause-took
-returns-then-allowed-clause-took g c = λ is.
+pub returns-then-is_ok-clause-took : goal.returns-then-is_ok-clause-took
+returns-then-is_ok-clause-took g c = λ _.
     let laws = g.met.S.TextSink in
     let printed = c.demangle_printed-read.new.out in
     let suffix = c.in-Some.suffix.now in
@@ -56,18 +55,18 @@ returns-then-allowed-clause-took g c = λ is.
     (prints_cut_all g.S.TextSink c.new-limited.result printed _ _ _ _ (Ok tt) c.new-limited.ensures.text c.new-limited.ensures.left prints (prints.open_ refl) (search rules))
     refl c.put_piece.ensures in
     let took = puts_text g.S.TextSink c.args.out.now c.put_piece.new.out _ put laws.took_nothing laws.took_joined both in
-    let allowed : is_allowed suffix ≡ true = sym c.is_allowed-allowed.ensures.allowed ∙ c.if-allowed.true in
+    let allowed : is_allowed suffix ≡ true = sym c.is_allowed.ensures.allowed ∙ c.if-is_allowed.true in
     let text = legacy_text c.args.run.now c.without_thin_lto-text.result.now _ suffix c.args.format c.for_text-limits.result c.for_text-limits.ensures c.without_thin_lto-text.ensures c.in-Some.ensures.some allowed in
-    subst (λ t. g.S.TextSink.took c.args.out.now t c.put_piece.new.out) text (when_ok put (sym c.is_ok.ensures.value ∙ is) took)
+    subst (λ t. g.S.TextSink.took c.args.out.now t c.put_piece.new.out) text (when_ok put (sym c.is_ok.ensures.value ∙ c.if-is_ok.true) took)
 
 pub returns-in_default-clause-most : goal.returns-in_default-clause-most
 returns-in_default-clause-most g c =
     omega (arith, c.in_default.ensures.most, ap length c.without_thin_lto-text.ensures, stripped-shorter c.args.run.now)
 
-pub returns-else-allowed-clause-most : goal.returns-else-allowed-clause-most
-returns-else-allowed-clause-most g c =
-    omega (arith, c.in-Some.ensures.most, c.in-Some.ensures.suffix, c.is_allowed-allowed.ensures.most, ap length c.without_thin_lto-text.ensures, stripped-shorter c.args.run.now)
+pub returns-else-is_allowed-clause-most : goal.returns-else-is_allowed-clause-most
+returns-else-is_allowed-clause-most g c =
+    omega (arith, c.in-Some.ensures.most, c.in-Some.ensures.suffix, c.is_allowed.ensures.most, ap length c.without_thin_lto-text.ensures, stripped-shorter c.args.run.now)
 
-pub returns-then-allowed-clause-most : goal.returns-then-allowed-clause-most
-returns-then-allowed-clause-most g c =
-    omega (arith, c.in-Some.ensures.most, c.in-Some.ensures.suffix, c.is_allowed-allowed.ensures.most, ap length c.without_thin_lto-text.ensures, stripped-shorter c.args.run.now)
+pub returns-then-is_ok-clause-most : goal.returns-then-is_ok-clause-most
+returns-then-is_ok-clause-most g c =
+    omega (arith, c.in-Some.ensures.most, c.in-Some.ensures.suffix, c.is_allowed.ensures.most, ap length c.without_thin_lto-text.ensures, stripped-shorter c.args.run.now)

@@ -1,6 +1,6 @@
 use Rattle.std.proofs.Common.{◌≡◌, ℕ, ◌<◌, ◌≤◌, length, nat_eq, nat_lt, ◌&&◌, ◌||◌, List, [], ◌∷◌, refl, arith, slice_index_or}
-use Rattle.rustc_demangle.specs.Credit.{is_v0_run}
-use Rattle.rustc_demangle.proofs.stream.credit.starts_as_v0.Goals as goal
+use Rattle.demangle_value.specs.Tried.{is_v0_run}
+use Rattle.demangle_value.proofs.value.printing.starts_as_v0.Goals as goal
 
 -- a run of more than two bytes
 long : (s : List ℕ) → 2 < length s →
