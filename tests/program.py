@@ -695,7 +695,7 @@ def run_refusing(first, last, words, text):
 
 # The sizes of a memo's allocations: of its fingerprints, and of its buffer as it grows. A run in which one fails is complete: it finds no
 # symbol again, or writes a symbol in parts.
-MEMO_SIZES = {4 * 8192, 1_024_000, *(4096 << step for step in range(7))}
+MEMO_SIZES = {4 * 8192, 1_024_000, *(1024 << step for step in range(9))}
 
 
 def requests():

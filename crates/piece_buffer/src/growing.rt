@@ -10,7 +10,7 @@ use std::marker::Model;
 pub const MOST_GROWN: usize = 1_024_000;
 
 /// The number of bytes that are allocated first. They double when they are full.
-const FIRST_GROWN: usize = 4096;
+const FIRST_GROWN: usize = 1024;
 
 /// The most bytes of memory that can grow. If more are needed, `MOST_GROWN` are allocated.
 const HALF_GROWN: usize = 512_000;
