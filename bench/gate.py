@@ -81,20 +81,22 @@ class Watch:
             waiting += [(child, task) for child in children.get(pid, [])]
         for task, seconds in spent.items():
             self.seconds[task] = max(self.seconds.get(task, 0), seconds)
-            first, _ = self.spans.get(task[1], (now, now))
-            self.spans[task[1]] = first, now
+            first, _ = self.spans.get(task, (now, now))
+            self.spans[task] = first, now
 
     def minutes(self, crate, kind):
         """Returns the processor time of all tasks of a crate and a kind."""
         return sum(seconds for (_, task), seconds in self.seconds.items() if task == (crate, kind)) / 60
 
+    def span(self, crate):
+        """Returns the minutes from the start and to the end of a crate's proof, the dearest if there are some, or None if it was kept."""
+        proofs = [task for task in self.seconds if task[1] == (crate, "proof")]
+        return tuple(at / 60 for at in self.spans[max(proofs, key=self.seconds.get)]) if proofs else None
+
     def chain(self, lower):
         """Returns the crates of the longest chain of proofs, and its minutes, by how long each proof took."""
-        took = {
-            crate: (self.spans[crate, "proof"][1] - self.spans[crate, "proof"][0]) / 60 if (crate, "proof") in self.spans else 0
-            for crate in lower
-        }
-        best = {}
+        spans = {crate: self.span(crate) for crate in lower}
+        took, best = {crate: span[1] - span[0] if span else 0 for crate, span in spans.items()}, {}
         for crate in sorted(lower, key=lambda crate: len(lower[crate])):
             before = max((best[other] for other in lower[crate]), default=(0, []))
             best[crate] = before[0] + took[crate], [*before[1], *([crate] if took[crate] else [])]
@@ -111,8 +113,9 @@ class Watch:
                 continue
             for kind, minutes in zip(KINDS, took):
                 whole[kind] += minutes
-            span = "%.1f to %.1f" % tuple(at / 60 for at in self.spans[crate, "proof"]) if (crate, "proof") in self.spans else "kept"
-            print("| `%s` | %s | %.1f | %s |" % (crate, " | ".join("%.1f" % minutes for minutes in took), sum(took), span))
+            span = self.span(crate)
+            times = "%.1f to %.1f" % span if span else "kept"
+            print("| `%s` | %s | %.1f | %s |" % (crate, " | ".join("%.1f" % minutes for minutes in took), sum(took), times))
         print("| all | %s | %.1f | |" % (" | ".join("%.1f" % whole[kind] for kind in KINDS), sum(whole.values())))
         minutes, crates = self.chain(lower)
         print("\nThe longest chain of proofs takes %.1f minutes: %s." % (minutes, ", ".join("`%s`" % crate for crate in crates)))
