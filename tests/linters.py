@@ -144,7 +144,6 @@ NEW_COUNTS = {
     "demangle_c_string/src/lib.rt": {"write_text": 1, "write_folded_text": 1},
     "demangle_symbol/src/cursor/looks.rt": {"new": 2},
     "demangle_v0_parser/src/parse.rt": {"at_path": 1, "in_larger_stack": 1},
-    "demangle_v0/src/printer.rt": {"print_rest": 1},
     "demangle_value/src/lib.rt": {"demangle": 1, "try_demangle": 1},
     "demangle_value/src/value/printing.rt": {"write_formatted": 1, "write_limited": 1, "write_folded": 1, "write_pieces_with_path_len": 1},
     "kodliwe_program/src/filtering.rt": {"write_parts": 1, "filter_all": 1},

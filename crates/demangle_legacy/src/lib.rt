@@ -69,8 +69,6 @@ fn ascii_inner_of<'s>(s: &'s str, is_ascii: bool, looks: &mut Looks) -> Option<&
 /// # Errors
 ///
 /// Returns `Err` if the text is not a legacy symbol.
-// As a call, it leaves the caller that reads both schemes small enough to be inlined.
-#[inline(never)]
 pub fn demangle<'s>(
     s: &'s str,
     is_ascii: bool,

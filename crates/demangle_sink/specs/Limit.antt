@@ -60,10 +60,6 @@ followed r n new = record r { used = used_after r.most r.used n new.used; high =
 abbrev pub Counts : (old : Reread) → (n : ℕ) → (new : Reread) → Type 0
 Counts old n new = (new.used ≡ used_with old.most old.used n) × (max old.high (used_with old.most old.used n) ≤ new.high) × (new.references ≡ min MAX (old.references + 1)) × (new.is_known ≡ old.is_known)
 
--- k more bytes may be passed to the sink
-abbrev pub allowing : {S : Type 0} → (k : ℕ) → SizeLimitedFmtAdapter S → SizeLimitedFmtAdapter S
-allowing k old = record old { remaining = old.remaining + k }
-
 -- Following a reference that may make the parser read n bytes again returned `result`. `Err` means that they are too
 -- many.
 abbrev pub Follows : {S : Type 0} → SizeLimitedFmtAdapter S → (n : ℕ) → Result (Unit {0}) SinkRefused → SizeLimitedFmtAdapter S → Type 0

@@ -2,7 +2,7 @@
 ghost use Rattle.std.specs.Prelude.{◌≡◌, ◌+◌, ◌-◌, ◌<◌, ◌≤◌, ◌⊎◌, [], ◌∷◌, length, max, true, false, None, IfNone, IfSome, OnOk};
 ghost use Rattle.demangle_sink.specs.Sink.{HasLength};
 ghost use Rattle.demangle_sink.specs.PutsPieces.{PutsPieces};
-ghost use Rattle.demangle_sink.specs.Limit.{Counts, Follows, GivesBack, Prints, FollowsAgain, Holds, IsOver, PutsAgain, Ready, allowing, and_one, followed, unused};
+ghost use Rattle.demangle_sink.specs.Limit.{Counts, Follows, GivesBack, Prints, FollowsAgain, Holds, IsOver, PutsAgain, Ready, and_one, followed, unused};
 
 use crate::{SinkRefused, TextSink};
 
@@ -173,18 +173,6 @@ impl<'s, S: TextSink> SizeLimitedFmtAdapter<'s, S> {
             is_limit_reached: false,
             lookups_left: LOOKUPS,
         }
-    }
-
-    /// Allows so many more bytes to be passed to the sink. In all, at most `usize::MAX` are left.
-    /// Returns whether no fewer were allowed.
-    pub fn allow_more(&mut self, bytes: usize) -> bool
-        ensures allowed { self.new ≡ allowing (self.new.remaining - self.old.remaining) self.old }
-        ensures most { self.new.remaining ≤ self.old.remaining + bytes }
-        ensures all { result ≡ true → self.new.remaining ≡ self.old.remaining + bytes }
-    {
-        let before = self.remaining;
-        self.remaining = before.saturating_add(bytes);
-        self.remaining - before == bytes
     }
 
     /// Counts the bytes that a reference may make the parser read again, and one more.

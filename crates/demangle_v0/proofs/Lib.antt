@@ -3,10 +3,8 @@ pub mod AgainTexts
 pub mod PutAgain
 pub mod NotedTexts
 pub mod Noting
-pub mod MoreBytes
 pub mod Targets
 pub mod Above
 pub mod PrintLoop
 pub mod SkipSteps
-pub mod SkipPace
 pub mod WholePaths

@@ -1,9 +1,8 @@
 -- Prints that continue at a target.
-use Rattle.std.proofs.Common.{◌≡◌, ℕ, zero, suc, ◌<◌, ◌≤◌, Bool, true, false, Option, Some, None, List, [], Result, Ok, refl, arith, sym, ap, ◌∙◌, inl, inr}
+use Rattle.std.proofs.Common.{◌≡◌, ℕ, Bool, true, false, Option, Some, None, List, [], Result, Ok, refl, sym, ap, ◌∙◌}
 use mathlib.Core.Bool.{not}
 use Rattle.std.specs.Option.{is_some}
 use Rattle.std.proofs.lemmas.Bool.{false≢true}
-use Rattle.std.proofs.lemmas.Bool.Decides.{leb_tells}
 use Rattle.demangle_sink.specs.declared.TextSink.{Ghosts as Sinks}
 use Rattle.demangle_sink.specs.declared.limit.SizeLimitedFmtAdapter.{SizeLimitedFmtAdapter}
 use Rattle.demangle_sink.specs.Limit.{Ready}
@@ -11,9 +10,7 @@ use Rattle.demangle_v0_grammar.specs.Reading.{Form}
 use Rattle.demangle_v0.specs.Above.{printing_on}
 use Rattle.demangle_v0.specs.HeldTexts.{HoldsTexts}
 use Rattle.demangle_v0_parser.specs.Loops.{printing}
-use Rattle.demangle_v0_parser.specs.Parsers.{Paced, Same, most_looks}
 use Rattle.demangle_v0.specs.declared.held_texts.StoredText.{StoredText}
-use Rattle.demangle_v0_parser.specs.declared.parse.Parser.{Parser}
 use Rattle.demangle_v0.proofs.NotedTexts.{JoinedTaken, NothingTaken}
 use Rattle.demangle_v0.proofs.Targets.{held_left, held_ran}
 use Rattle.demangle_sink.specs.declared.SinkRefused.{SinkRefused}
@@ -38,25 +35,6 @@ none_is (Some y) b h k = absurd (false≢true (sym (h ∙ ap not k)))
 pub some_on : (x : Option Unfinished) (b : Bool) → is_some x ≡ not b → b ≡ false → printing_on (Ok x) ≡ Ok x
 some_on None b h k = absurd (false≢true (h ∙ ap not k))
 some_on (Some y) b h k = refl
-
--- Fuel that is used up.
-
-pub zero_on : (a b : ℕ) → (0 < b → 0 < a) → a ≡ 0 → b ≡ 0
-zero_on a zero f k = refl
-zero_on a (suc b) f k = absurd (omega (arith, k, f (omega arith)))
-
-pub paced_then : (m k j : Parser) → Same m k → Paced 0 m k → Paced 0 k j → (0 < j.fuel.left → 0 < k.fuel.left) → Paced 0 m j
-paced_then m k j same one other fueled = λ h.
-    let then = rw same.0 at other in
-    omega (arith, one (fueled h), then h)
-
-pub most_on : (m k j : Parser) → Same m k → Paced 0 m k → k.looks ≤ most_looks m → j.looks ≤ most_looks k → (k.fuel.left ≡ 0 → j.looks ≤ k.looks) → j.looks ≤ most_looks m
-most_on m k j same pace l most idle =
-    let most_of_k = rw same.0 at most in
-    elim (leb_tells 1 k.fuel.left) [
-      | inl w ↦ omega (arith, most_of_k, pace (omega (arith, w.1)))
-      | inr w ↦ omega (arith, l, idle (omega (arith, w.1)))
-    ]
 
 module _ {S : Type 0} (sink : Sinks S) (b : List ℕ) (form : Form) where
   pub held_on : NothingTaken sink b form → JoinedTaken sink b form → {p : Continuation} {t : Machine (SizeLimitedFmtAdapter S)} (x : Option Unfinished) {r : Checkpoint} {now : List Frame} {w : SizeLimitedFmtAdapter S} {n : ℕ} (ts : List StoredText) → Ready sink t.output → HoldsTexts sink b form t.output ts → PrintDone (printing sink b form) p t (Ok x) r now w n → HoldsTexts sink b form w ts

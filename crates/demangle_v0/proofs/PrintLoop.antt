@@ -30,8 +30,8 @@ use Rattle.demangle_sink.specs.declared.SinkRefused.{SinkRefused}
 use Rattle.demangle_sink.specs.declared.limit.Reread.{Reread}
 use Rattle.demangle_sink.specs.declared.limit.SizeLimitedFmtAdapter.{SizeLimitedFmtAdapter}
 use Rattle.demangle_v0_parser.specs.Traces.{Action, allows_looks, puts, with_actions, action_looks, action_texts, trace_at, trace_of_stack, remaining_trace, goes_back, comes_back}
-use Rattle.demangle_v0_parser.specs.Steps.{Env, Machine, machine, StepPart, Stopped, Emission, gives, refers_on, ends_at, after_emission, Receives}
-use Rattle.demangle_v0_parser.specs.Loops.{Valid, Emitted, RanSteps, StoppedAfter, Skipped, StopsInPart, printing, PrintDone, Passed, ValidUnfinished, Finishes, Ended, EndedAt, first_state, part_trace}
+use Rattle.demangle_v0_parser.specs.Steps.{Env, Machine, machine, Emission, gives, refers_on, ends_at, after_emission, Receives}
+use Rattle.demangle_v0_parser.specs.Loops.{Valid, Emitted, RanSteps, StoppedAfter, Skipped, StopsInPart, PrintingInPart, printing, state_at, PrintDone, Passed, ValidUnfinished, Finishes, Ended, EndedAt, first_state, part_trace}
 use Rattle.demangle_v0_parser.specs.declared.Continuation.{Continuation}
 use Rattle.demangle_v0_parser.specs.declared.Continuation.TheVariants as continuation
 use Rattle.demangle_v0_parser.specs.declared.frames.Frame.{Frame}
@@ -39,10 +39,10 @@ use Rattle.demangle_v0_parser.specs.declared.State.{State}
 use Rattle.demangle_v0_parser.specs.declared.stops.Checkpoint.{Checkpoint}
 use Rattle.demangle_v0_parser.specs.declared.stops.Unfinished.{Unfinished}
 use Rattle.demangle_v0_parser.specs.declared.stops.Unfinished.TheVariants as left
-use Rattle.demangle_v0_parser.proofs.LoopLemmas.{ran_then, prefix_of, after_broke, broke_trace, broke_emits, broke_enough, allowed_bits}
+use Rattle.demangle_v0_parser.proofs.LoopLemmas.{ran_then, ran_looks, prefix_of, after_broke, broke_trace, broke_emits, broke_enough, allowed_bits}
 use Rattle.demangle_v0.proofs.SkipSteps.{skipped_trace, skipped_valid}
 use Rattle.demangle_v0_grammar.proofs.SkippedPaths.{allowances, total_allowances}
-use Rattle.demangle_v0_parser.specs.Skips.{is_skipped}
+use Rattle.demangle_v0_parser.specs.Skips.{is_skipped, after_skip}
 
 module _ {V : Type 0} {e : Env V} where
   -- the output rejected a text
@@ -97,51 +97,6 @@ module _ {V : Type 0} {e : Env V} where
     where
       some_none : Some y ≡ None → ⊥
       some_none z = cc
-
-  -- a step that failed, from another count of looks
-  stopped_apart : {part : StepPart} {s t : Machine V} (k old : ℕ) → Stopped e part s t → Stopped e part (record s { looks = k + (s.looks - old) }) (record t { looks = k + (t.looks - old) })
-  stopped_apart k old h = record {
-    prefix = h.prefix;
-    emitted = h.emitted;
-    rest = h.rest;
-    rejection = h.rejection;
-    prints = h.prints;
-    reads = h.reads;
-    primitive_count = h.primitive_count;
-    paid_looks = omega (arith, h.paid_looks);
-    exact = λ q. omega (arith, h.exact q);
-    fails = h.fails;
-  }
-
-  -- the rest of a parse was printed, with a count of looks that was `old` and is `new`
-  pub ended_apart : {p : Continuation} {t : Machine V} {answer : Option Unfinished} {r : Checkpoint} {now : List Frame} {v w : V} {m old new : ℕ} (result : Result (Unit {0}) SinkRefused) → answer ≡ Some left.Printing → PrintDone e p t (Ok answer) r now v m
-      → Ended e r.continuation (machine r.state now v old) result w new → Ended e p t result w (m + (new - old))
-  ended_apart {answer = None} result k c z = absurd (none_some k)
-    where
-      none_some : None ≡ Some left.Printing → ⊥
-      none_some z = cc
-  ended_apart {answer = Some left.Printing} (Ok u) k c z =
-      let b = z.ended.1 in
-      record { ended = (z.ended.0, ran_then c.ran (record { bits = b.bits; emits = b.emits; reads = b.reads; paid_looks = omega (arith, b.paid_looks) })) }
-  ended_apart {answer = Some left.Printing} {m = m} {old = old} {new = new} (Err f) k c z =
-      let d = z.ended in
-      let b = d.ran in
-      record {
-        ended = record {
-          at = d.at;
-          mid = record d.mid { looks = m + (d.mid.looks - old) };
-          stack = d.stack;
-          end = record d.end { looks = m + (d.end.looks - old) };
-          ran = ran_then c.ran (record { bits = b.bits; emits = b.emits; reads = b.reads; paid_looks = omega (arith, b.paid_looks) });
-          halts = stopped_apart m old d.halts;
-          same_output = d.same_output;
-          same_looks = ap (λ (n : ℕ). m + (n - old)) d.same_looks;
-        };
-      }
-  ended_apart {answer = Some (left.Skipping base at)} result k c z = absurd (other k)
-    where
-      other : Some (left.Skipping base at) ≡ Some left.Printing → ⊥
-      other z = cc
 
 pub passed_valid : (b : List ℕ) (form : Form) (primitive_count now : List Frame) (k : ℕ) (x : Unfinished) (r to : Checkpoint) (m n : ℕ) → ValidUnfinished b form k (Ok (Some x)) r primitive_count m → Passed b form x r primitive_count m to now n → Valid to.continuation to.state now
 passed_valid b form primitive_count now i left.Printing r to m n v k = rw (k.0, k.1) v.0
@@ -292,6 +247,13 @@ module _ {S : Type 0} (sink : Sinks S) (b : List ℕ) (form : Form) where
       → RanSteps (printing sink b form) p t to.continuation (machine to.state now w n)
   passed_ran left.Printing a k = rw (k.0, k.1) (record { bits = a.ran.bits; emits = a.ran.emits; reads = a.ran.reads; paid_looks = omega (arith, k.2, a.ran.paid_looks) })
   passed_ran (left.Skipping base r) a k = let s = a.ran.skips in ran_skips s.skips a.ran.ran (k s.below a.ran.began s.reads s.height)
+
+  -- in the part that is not printed: the looks are those that the whole part allows
+  in_part : {p : Continuation} {t : Machine (SizeLimitedFmtAdapter S)} {base : ℕ} {inner r : Checkpoint} {now : List Frame} {w : SizeLimitedFmtAdapter S} {n : ℕ} → (z : PrintingInPart (printing sink b form) p t base inner r now w n)
+      → RanSteps (printing sink b form) p t (after_skip r.continuation) (machine (state_at r.state (part_trace b form r.continuation r.state).place) z.skips.below w n)
+  in_part {r = r} z =
+      let s = z.skips in
+      ran_skips s.skips z.ran (record { at = refl; place = (part_trace b form r.continuation r.state).place; ends = refl; state = refl; is_stack = refl; paid_looks = omega (arith, ran_looks s.reads.ran) })
 
   abbrev begun : SizeLimitedFmtAdapter S → ℕ → Machine (SizeLimitedFmtAdapter S)
   begun v n = machine (first_state 0) [] v n
@@ -465,12 +427,26 @@ module _ {S : Type 0} (sink : Sinks S) (b : List ℕ) (form : Form) where
       subst (λ (h : Trace). IsWithinBudget 17 (17 * (length b + 1)) (dues (length b) h.events) 0) (sym (remaining_trace-empty_stack b form true continuation.Path (first_state 0))) (path_dues b form)
 
   bits_few : (k m n : ℕ) (v w : SizeLimitedFmtAdapter S) (bits : List Action) (h : Trace) → v.reread.most ≡ Some k → Emitted (printing sink b form) bits v w → remaining_trace b form true continuation.Path (first_state 0) [] ≡ with_actions true bits h
-      → n ≤ m + (action_looks bits + 2) → n ≤ m + 20 * (length b + 1 + k)
+      → n ≤ m + (action_looks bits + 2) → n ≤ m + 17 * (length b + 1 + k) + 2
   bits_few k m n v w bits h e t q l =
       let due : action_looks bits + 17 * given_in (length b) bits ≤ 17 * (length b + 1) + 17 * used_in (length b) bits = bits_due (17 * (length b + 1)) (length b) bits h (subst (λ (g : Trace). IsWithinBudget 17 (17 * (length b + 1)) (dues (length b) g.events) 0) q whole_dues) in
       omega (arith, l, due, limited_use k v.reread.used v w bits e refl t)
 
   pub prints_few : {v w : SizeLimitedFmtAdapter S} {m n : ℕ} (k : ℕ) (result : Result (Unit {0}) SinkRefused) → v.reread.most ≡ Some k → Ended (printing sink b form) continuation.Path (begun v m) result w n
       → n ≤ m + 20 * (length b + 1 + k)
-  prints_few k (Ok u) e z = let r = z.ended.1 in bits_few k _ _ _ _ r.bits _ e r.emits r.reads (omega (arith, r.paid_looks))
-  prints_few k (Err f) e z = let d = z.ended in bits_few k _ _ _ _ (prefix_of d) _ e (broke_emits d) (broke_trace d) (broke_enough d)
+  prints_few {m = m} {n = n} k (Ok u) e z =
+      let r = z.ended.1 in
+      let few : n ≤ m + 17 * (length b + 1 + k) + 2 = bits_few k _ _ _ _ r.bits _ e r.emits r.reads (omega (arith, r.paid_looks)) in
+      omega (arith, few)
+  prints_few {m = m} {n = n} k (Err f) e z =
+      let d = z.ended in
+      let few : n ≤ m + 17 * (length b + 1 + k) + 2 = bits_few k _ _ _ _ (prefix_of d) _ e (broke_emits d) (broke_trace d) (broke_enough d) in
+      omega (arith, few)
+
+  -- the same for a print that stopped before its end
+  pub stops_few : {v w : SizeLimitedFmtAdapter S} {m n : ℕ} {r : Checkpoint} {now : List Frame} (k : ℕ) (result : Result (Option Unfinished) SinkRefused) → v.reread.most ≡ Some k
+      → PrintDone (printing sink b form) continuation.Path (begun v m) result r now w n → n ≤ m + 17 * (length b + 1 + k) + 2
+  stops_few k (Ok None) e z = let r = z.ran in bits_few k _ _ _ _ r.bits _ e r.emits r.reads (omega (arith, r.paid_looks))
+  stops_few k (Ok (Some left.Printing)) e z = let r = z.ran in bits_few k _ _ _ _ r.bits _ e r.emits r.reads (omega (arith, r.paid_looks))
+  stops_few k (Ok (Some (left.Skipping base at))) e z = let r = in_part z.ran in bits_few k _ _ _ _ r.bits _ e r.emits r.reads (omega (arith, r.paid_looks))
+  stops_few k (Err f) e z = let d = z.ran in bits_few k _ _ _ _ (prefix_of d) _ e (broke_emits d) (broke_trace d) (broke_enough d)

@@ -22,7 +22,6 @@ use Rattle.demangle_v0_grammar.specs.Traces.{Event, Trace, and_then, prints_text
 use Rattle.demangle_v0.specs.HeldTexts.{HoldsTarget, HoldsText, HoldsTexts, IsTextOf, target_trace, text_of, unit_at}
 use Rattle.demangle_v0_parser.specs.Loops.{RanSteps, printing, trace_left}
 use Rattle.demangle_v0_parser.specs.Measure.{Fits}
-use Rattle.demangle_v0_parser.specs.Parsers.{left_at}
 use Rattle.demangle_v0_parser.specs.Steps.{machine}
 use Rattle.demangle_v0_parser.specs.Targets.{is_target}
 use Rattle.demangle_v0_parser.specs.Traces.{trace_at, trace_of_stack, trace_of_state, with_actions}
@@ -193,12 +192,3 @@ module _ {S : Type 0} (sink : Sinks S) (b : List ℕ) (form : Form) where
             reads = ap (λ (u : Trace). and_then u stacked) (target_reads p s t k x) ∙ and_put h1 t.end stacked f.ends (target_closed t.kind t.in_value s.depth_left t.lifetimes (Some t.place)) ∙ ap (λ (u : Trace). with_actions true (actions_of h1.events) u) (sym (left_after s w t stack n));
             paid_looks = omega arith;
           }
-
-  pub put_later : (p : Continuation) (s : State) (v w : SizeLimitedFmtAdapter S) (t : TargetText) → IsTextOf t p s → HoldsTarget sink b form v t → s.depth_left ≤ max_depth → PutsAgain sink v t.text w → (n : ℕ) → left_at n (Some t.end) ≤ left_at n s.place
-  put_later p s v w t x h m z n = let l = go (sink.held v.out.now) refl in omega (arith, l, ap (left_at n) x.place)
-    where
-      go : (held : Option (List ℕ)) → sink.held v.out.now ≡ held → t.place ≤ t.end
-      go None q = absurd (subst (λ o. TakesAgain sink.took o t.text.start t.text.len v.out.now w.out.now) q z.takes.again)
-      go (Some bytes) q =
-          let f : HoldsText b form bytes t s.depth_left = subst (λ o. IfSome o (λ ys. HoldsText b form ys t s.depth_left)) q (held_text v t s.depth_left h x.depth m) in
-          f.later

@@ -14,7 +14,7 @@ use Rattle.std.below.core.specs.declared.int.usize.TheConstants.{MAX}
 use Rattle.demangle_v0_parser.specs.declared.State.{State}
 use Rattle.demangle_v0.specs.declared.held_texts.Note.{Note}
 use Rattle.demangle_v0.specs.declared.held_texts.TargetText.{TargetText}
-use Rattle.demangle_v0_parser.specs.Parsers.{PrintsSteps, all_of, checkpoint_of, left_at, printing_of}
+use Rattle.demangle_v0_parser.specs.Parsers.{PrintsSteps, checkpoint_of, printing_of}
 use Rattle.demangle_v0_parser.specs.Targets.{is_target, unit_of}
 use Rattle.demangle_v0_parser.specs.Measure.{measure}
 use Rattle.demangle_v0_parser.specs.declared.Continuation.{Continuation}
@@ -78,9 +78,7 @@ pub record StopsAtTarget (result : Result (Option Unfinished) SinkRefused) (m : 
 -- The text of the target at which `m` is was put again. Printing continues at `k`, with the same frames.
 pub record PutsAgainTarget {S : Type 0} (sink : Sinks S) (m : Parser) (v : SizeLimitedFmtAdapter S) (k : Parser) (w : SizeLimitedFmtAdapter S) : Type 0 where
   pub ran : (stack : List Frame) → RanSteps (printing_of sink m) m.continuation (machine m.state stack v m.looks) continuation.End (machine k.state stack w k.looks)
-  pub is : k ≡ record m { state = record m.state { place = k.state.place; is_bracket_open = k.state.is_bracket_open }; fuel = k.fuel }
-  pub paid : 0 < k.fuel.left → all_of k.fuel + 5 ≤ all_of m.fuel
-  pub later : (n : ℕ) → left_at n k.state.place ≤ left_at n m.state.place
+  pub is : k ≡ record m { state = record m.state { place = k.state.place; is_bracket_open = k.state.is_bracket_open } }
 
 -- The target at which `m` is was run, and `next` is next: its text was put again, or its production is next.
 abbrev pub RunsTarget : {S : Type 0} → Sinks S → Parser → SizeLimitedFmtAdapter S → (next : Continuation) → Parser → SizeLimitedFmtAdapter S → Type 0

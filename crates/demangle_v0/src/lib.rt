@@ -7,9 +7,9 @@ ghost use Rattle.demangle_sink.specs.Limit.{Ready};
 ghost use Rattle.demangle_v0.specs.Printed.{HasLengthsWithin, IsKnown};
 
 use crate::stacks::SHORT_STACK;
-use crate::validation::{begins_path, print_or_validate, suffix_at};
+use crate::validation::{begins_path, print_to_suffix, suffix_at};
 use demangle_sink::{SinkRefused, SizeLimitedFmtAdapter, TextSink};
-use demangle_symbol::cursor::{Looks, ParseError, RunLooks, Symbol};
+use demangle_symbol::cursor::{Looks, ParseError, Symbol};
 use demangle_symbol::form::Form;
 use demangle_v0_parser::frames::UNUSED_FRAME;
 use demangle_v0_parser::fuel::Fuel;
@@ -119,86 +119,83 @@ pub fn demangle<'s>(
     Ok((Demangle::new(symbol), &inner[end..]))
 }
 
-/// How much of the first path of a symbol was printed.
-#[derive(Clone, Copy)]
-pub enum Extent {
-    /// The whole path.
-    Whole,
-    /// The path up to a limit.
-    Cut,
-    /// An unknown part of the path.
-    Part,
-}
-
 /// What is known of a text whose first path was printed before it was known to be a symbol.
 #[derive(Drop)]
 pub enum Printed<'s> {
-    /// The text is this symbol with this suffix, and so much of its first path was printed.
-    Symbol(Demangle<'s>, &'s str, Extent),
-    /// The text is not a symbol. A part of a path may be printed.
+    /// The text is this symbol with this suffix, and its first path was printed.
+    Symbol(Demangle<'s>, &'s str),
+    /// The text is not a symbol. A path may be printed.
     NoSymbol,
-    /// The limit or the sink rejected a piece, or the limit a reference, before it was known whether
-    /// the text is a symbol.
+    /// The first path was not printed to its end, so nothing is known of the text.
     Unknown,
 }
 
-/// How a path is printed before it is known whether the text is a symbol.
-#[derive(Clone, Copy)]
-pub struct FirstPrint {
-    pub form: Form,
-    /// How many more bytes may be passed to the sink after the text was validated.
-    pub withheld: usize,
+/// A print of a path before the text was known to be a symbol.
+#[derive(Drop)]
+pub struct FirstPrint<'s> {
+    pub printed: Printed<'s>,
     /// How much fuel the references of the path used up.
     pub fuel: usize,
 }
 
-/// Prints the first path of a v0 symbol before the text is known to be one, and counts its looks: with
-/// hashes or without them, and with its generic arguments or with `_` for them. Returns what is known
-/// of the text then, which must be ASCII, and sets the fuel of `first`.
+/// Prints the first path of a v0 symbol before the text is known to be one, and counts its looks: in a
+/// form with hashes or without them, and with its generic arguments or with `_` for them. Returns what
+/// is known of the text then, which must be ASCII.
 ///
-/// The path is printed until its fuel is used up. If it has few references, the text is read once.
-/// Otherwise, and after an error, the text is validated before the rest of the path is printed, and
-/// more bytes may be passed to the sink then. A path that is nested deeply may be printed in part. The
-/// looks up to the end of validation are bounded by the length of the text, and by less if the text was
-/// not validated.
+/// If the path has few references, the text is read once. Otherwise the print gives up when its fuel
+/// is used up, or at the first reference for which more bytes may be read again than the adapter
+/// allows. So if their number is limited, the looks are bounded by the length of the text.
 pub fn print_first<'s, S: TextSink>(
     s: &'s str,
     out: &mut SizeLimitedFmtAdapter<'_, S>,
-    first: &mut FirstPrint,
-    looks: &mut RunLooks,
-) -> Printed<'s>
+    form: Form,
+    looks: &mut Looks,
+) -> FirstPrint<'s>
     requires ascii { IsAscii s.now }
     requires ready { Ready S.TextSink out.old }
-    ensures known { IsKnown S.TextSink s.now out.old first.old result out.new }
-    ensures inner { HasLengthsWithin (length s.now) result }
-    ensures grows { looks.old.accepting_looks ≤ looks.new.accepting_looks }
-    ensures most { looks.new.accepting_looks ≤ looks.old.accepting_looks + 134 * (length s.now + 1) }
-    ensures early { result ≡ Printed.Unknown →
-        looks.new.accepting_looks ≤ looks.old.accepting_looks + 85 * (length s.now + 1) + 8 }
-    ensures apart { looks.old.printing_looks ≤ looks.new.printing_looks }
-    ensures few { (most : ℕ) → out.old.reread.most ≡ Some most →
-        looks.new.printing_looks ≤ looks.old.printing_looks + 20 * (length s.now + 1 + most) }
+    ensures known { IsKnown S.TextSink s.now out.old form result.printed out.new }
+    ensures inner { HasLengthsWithin (length s.now) result.printed }
+    ensures grows { looks.old ≤ looks.new }
+    ensures most { IfSome out.old.reread.most (λ most.
+        looks.new ≤ looks.old + 17 * (length s.now + 1 + most) + 33 * (length s.now + 1) + 3) }
+    ensures early { IfSome out.old.reread.most (λ most. result.printed ≡ Printed.Unknown →
+        looks.new ≤ looks.old + 17 * (length s.now + 1 + most) + length s.now + 3) }
 {
-    let Some(inner) = ascii_inner_of(s, true, &mut looks.accepting_looks) else {
-        return Printed::NoSymbol;
+    let Some(inner) = ascii_inner_of(s, true, looks) else {
+        return FirstPrint {
+            printed: Printed::NoSymbol,
+            fuel: 0,
+        };
     };
     let symbol = Symbol::new(inner);
-    if !begins_path(&symbol, 0, &mut looks.accepting_looks) {
-        return Printed::NoSymbol;
+    if !begins_path(&symbol, 0, looks) {
+        return FirstPrint {
+            printed: Printed::NoSymbol,
+            fuel: 0,
+        };
     }
     let source = Source {
         symbol: &symbol,
-        form: first.form,
+        form,
     };
     let mut memory = [UNUSED_FRAME; SHORT_STACK];
-    let mut parser = Parser::at_path(source, 0, &mut memory, &mut looks.accepting_looks);
-    parser.fuel = Fuel::for_run(symbol.len());
-    let path = print_or_validate(&mut parser, out, first.withheld, &mut looks.printing_looks);
-    looks.accepting_looks = parser.looks;
-    first.fuel = parser.fuel.used_within();
-    match path {
-        Ok(Some(path)) => Printed::Symbol(Demangle::new(symbol), &inner[path.end..], path.extent),
-        Ok(None) => Printed::NoSymbol,
-        Err(SinkRefused) => Printed::Unknown,
+    let mut parser = Parser::at_path(source, 0, &mut memory, looks);
+    parser.fuel = Fuel::for_first_print();
+    let end = print_to_suffix(&mut parser, out);
+    *looks = parser.looks;
+    let fuel = parser.fuel.used;
+    match end {
+        Ok(Some(end)) => {
+            let printed = Printed::Symbol(Demangle::new(symbol), &inner[end..]);
+            FirstPrint { printed, fuel }
+        }
+        Ok(None) => {
+            let printed = Printed::NoSymbol;
+            FirstPrint { printed, fuel }
+        }
+        Err(SinkRefused) => {
+            let printed = Printed::Unknown;
+            FirstPrint { printed, fuel }
+        }
     }
 }

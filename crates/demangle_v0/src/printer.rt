@@ -2,31 +2,26 @@
 ghost use Rattle.std.specs.Prelude.{◌≡◌, ◌+◌, ◌<◌, ◌≤◌, ◌⊎◌, true, false, length, IsAscii, IfSome, IsOk, Ok, Some, None};
 ghost use Rattle.demangle_sink.specs.Limit.{Ready};
 ghost use Rattle.demangle_v0.specs.Above.{PrintsAbove, PrintsTarget, StopsAtTarget, printing_on, work_left};
-ghost use Rattle.demangle_v0.specs.FirstPaths.{PrintsRest};
 ghost use Rattle.demangle_v0.specs.HeldTexts.{HoldsTexts};
 ghost use Rattle.demangle_v0_parser.specs.Targets.{is_target};
-ghost use Rattle.demangle_v0_parser.specs.Parsers.{EndsPrinting, IsValid, UnfinishedIsValid, Paced, PrintsAll, PrintsOn, PrintsSteps, Same, first_looks_of, most_looks, unfinished_looks};
+ghost use Rattle.demangle_v0_parser.specs.Parsers.{EndsPrinting, IsValid, UnfinishedIsValid, PrintsAll, PrintsOn, PrintsSteps, Same, first_looks_of, unfinished_looks};
 
-use crate::Extent;
 use crate::held_texts::{
     MOST_TEXTS, PrintScope, StoredText, UNUSED_TEXT, end_note, run_target, start_note,
 };
-use crate::skip::{finish_skip, may_skip, skip_for_fuel};
+use crate::skip::{finish_skip, skip_part};
 use crate::stacks::{FULL_STACK, MIDDLE_STACK};
 use demangle_sink::{SinkRefused, SizeLimitedFmtAdapter, TextSink};
-use demangle_symbol::cursor::Looks;
 use demangle_v0_parser::Continuation;
 use demangle_v0_parser::asides::is_aside;
 use demangle_v0_parser::frames::UNUSED_FRAME;
-use demangle_v0_parser::fuel::Fuel;
 use demangle_v0_parser::parse::Parser;
 use demangle_v0_parser::stops::Unfinished;
 use demangle_v0_parser::targets::{is_target, unit_of};
-use std::mem;
 
-/// Prints until only the frames below the scope are left or the stack is full. A parse with a
-/// budget also stops when its fuel is used up, and one that notes at a target whose text the scope
-/// does not have. Returns what is left then.
+/// Prints until only the frames below the scope are left or the stack is full. If it `may_stop`, it
+/// also stops when the fuel is used up. One that notes stops at a target whose text the scope does
+/// not have. Returns what is left then.
 ///
 /// Fails at the first piece that the limit or the sink rejects.
 // All prints share this loop. With two, the compiler would put the continuations into neither.
@@ -34,7 +29,7 @@ use std::mem;
 fn print_above<S: TextSink>(
     parser: &mut Parser<'_, '_>,
     out: &mut SizeLimitedFmtAdapter<'_, S>,
-    has_budget: bool,
+    may_stop: bool,
     scope: PrintScope<'_>,
 ) -> Result<Option<Unfinished>, SinkRefused>
     requires ascii { IsAscii parser.old.source.symbol.now }
@@ -46,20 +41,16 @@ fn print_above<S: TextSink>(
     ensures ready { IsOk result → Ready S.TextSink out.new }
     ensures valid { UnfinishedIsValid 0 result parser.new }
     ensures done { result ≡ Ok None → IsValid parser.new × (parser.new.continuation ≡ Continuation.End) }
-    ensures full { has_budget ≡ false → (StopsAtTarget result parser.new × (scope.entry.notes ≡ true)) ⊎ UnfinishedIsValid parser.new.stack.room result parser.new }
+    ensures full { may_stop ≡ false → (StopsAtTarget result parser.new × (scope.entry.notes ≡ true)) ⊎ UnfinishedIsValid parser.new.stack.room result parser.new }
     ensures grows { parser.old.looks ≤ parser.new.looks }
-    ensures least { has_budget ≡ false → parser.old.looks + first_looks_of parser.old ≤ parser.new.looks +
+    ensures least { may_stop ≡ false → parser.old.looks + first_looks_of parser.old ≤ parser.new.looks +
         unfinished_looks result parser.new }
-    ensures paced { has_budget ≡ true → IsOk result → Paced 0 parser.old parser.new }
-    ensures most { has_budget ≡ true → parser.new.looks ≤ most_looks parser.old }
-    ensures fueled { has_budget ≡ true → 0 < parser.new.fuel.left → 0 < parser.old.fuel.left }
-    ensures idle { has_budget ≡ true → parser.old.fuel.left ≡ 0 → parser.new.looks ≤ parser.old.looks }
     ensures falls { result ≡ Ok (Some Unfinished.Printing) → work_left parser.new ≤ work_left parser.old }
     ensures same { Same parser.old parser.new }
 {
     let mut continuation = parser.continuation;
     'steps: while parser.stack.has_room() {
-        if !parser.fuel.pay_step(has_budget) {
+        if may_stop && parser.fuel.is_used_up() {
             parser.continuation = continuation;
             return Ok(Some(Unfinished::Printing));
         }
@@ -79,10 +70,7 @@ fn print_above<S: TextSink>(
             continuation = following;
         } else {
             parser.continuation = next;
-            if !may_skip(parser, has_budget) {
-                return Ok(Some(Unfinished::Printing));
-            }
-            if let Some(left) = skip_for_fuel(parser) {
+            if let Some(left) = skip_part(parser) {
                 return Ok(Some(left));
             }
             continuation = parser.continuation;
@@ -99,7 +87,7 @@ fn print_above<S: TextSink>(
 fn print_target<S: TextSink>(
     parser: &mut Parser<'_, '_>,
     out: &mut SizeLimitedFmtAdapter<'_, S>,
-    has_budget: bool,
+    may_stop: bool,
     texts: &mut [StoredText; MOST_TEXTS],
 ) -> Result<Option<Unfinished>, SinkRefused>
     requires ascii { IsAscii parser.old.source.symbol.now }
@@ -110,13 +98,9 @@ fn print_target<S: TextSink>(
     ensures ran { PrintsTarget S.TextSink parser.old out.old result parser.new out.new }
     ensures ready { IsOk result → Ready S.TextSink out.new }
     ensures valid { UnfinishedIsValid 0 (printing_on result) parser.new }
-    ensures full { has_budget ≡ false → StopsAtTarget result parser.new ⊎ UnfinishedIsValid parser.new.stack.room result parser.new }
+    ensures full { may_stop ≡ false → StopsAtTarget result parser.new ⊎ UnfinishedIsValid parser.new.stack.room result parser.new }
     ensures held { IsOk result → HoldsTexts S.TextSink parser.old.source.symbol.now parser.old.source.form out.new texts.new }
     ensures grows { parser.old.looks ≤ parser.new.looks }
-    ensures paced { has_budget ≡ true → IsOk result → Paced 0 parser.old parser.new }
-    ensures most { has_budget ≡ true → parser.new.looks ≤ most_looks parser.old }
-    ensures fueled { has_budget ≡ true → 0 < parser.new.fuel.left → 0 < parser.old.fuel.left }
-    ensures idle { has_budget ≡ true → parser.old.fuel.left ≡ 0 → parser.new.looks ≤ parser.old.looks }
     ensures falls { printing_on result ≡ Ok (Some Unfinished.Printing) → work_left parser.new < work_left parser.old }
     ensures same { Same parser.old parser.new }
 {
@@ -127,7 +111,7 @@ fn print_target<S: TextSink>(
         texts: &*texts,
         notes: false,
     };
-    if let Some(left) = print_above(parser, out, has_budget, scope)? {
+    if let Some(left) = print_above(parser, out, may_stop, scope)? {
         return Ok(Some(left));
     }
     end_note(parser, &note, out, texts);
@@ -154,7 +138,7 @@ fn stops_at_target(parser: &Parser<'_, '_>, left: Option<Unfinished>) -> bool
 fn print_noting<S: TextSink>(
     parser: &mut Parser<'_, '_>,
     out: &mut SizeLimitedFmtAdapter<'_, S>,
-    has_budget: bool,
+    may_stop: bool,
 ) -> Result<Option<Unfinished>, SinkRefused>
     requires ascii { IsAscii parser.old.source.symbol.now }
     requires ready { Ready S.TextSink out.old }
@@ -163,38 +147,34 @@ fn print_noting<S: TextSink>(
     ensures ran { PrintsSteps S.TextSink parser.old out.old result parser.new out.new }
     ensures ready { IsOk result → Ready S.TextSink out.new }
     ensures valid { UnfinishedIsValid 0 result parser.new }
-    ensures full { has_budget ≡ false → UnfinishedIsValid parser.new.stack.room result parser.new }
+    ensures full { may_stop ≡ false → UnfinishedIsValid parser.new.stack.room result parser.new }
     ensures grows { parser.old.looks ≤ parser.new.looks }
-    ensures paced { has_budget ≡ true → IsOk result → Paced 0 parser.old parser.new }
-    ensures most { has_budget ≡ true → parser.new.looks ≤ most_looks parser.old }
-    ensures fueled { has_budget ≡ true → 0 < parser.new.fuel.left → 0 < parser.old.fuel.left }
-    ensures idle { has_budget ≡ true → parser.old.fuel.left ≡ 0 → parser.new.looks ≤ parser.old.looks }
     ensures same { Same parser.old parser.new }
 {
     let mut texts = [UNUSED_TEXT; MOST_TEXTS];
     let mut left = Some(Unfinished::Printing);
     'noting: while stops_at_target(parser, left) {
-        left = print_target(parser, out, has_budget, &mut texts)?;
+        left = print_target(parser, out, may_stop, &mut texts)?;
         if left.is_none() {
             let scope = PrintScope {
                 base: 0,
                 texts: &texts,
                 notes: true,
             };
-            left = print_above(parser, out, has_budget, scope)?;
+            left = print_above(parser, out, may_stop, scope)?;
         }
     }
     Ok(left)
 }
 
-/// Prints until nothing is left or the stack is full. A parse with a budget also stops when its
-/// fuel is used up. Returns what is left then.
+/// Prints until nothing is left or the stack is full. If it `may_stop`, it also stops when the fuel is
+/// used up. Returns what is left then.
 ///
 /// Fails at the first piece that the limit or the sink rejects.
 pub fn print_steps<S: TextSink>(
     parser: &mut Parser<'_, '_>,
     out: &mut SizeLimitedFmtAdapter<'_, S>,
-    has_budget: bool,
+    may_stop: bool,
 ) -> Result<Option<Unfinished>, SinkRefused>
     requires ascii { IsAscii parser.old.source.symbol.now }
     requires ready { Ready S.TextSink out.old }
@@ -202,12 +182,10 @@ pub fn print_steps<S: TextSink>(
     ensures ran { PrintsSteps S.TextSink parser.old out.old result parser.new out.new }
     ensures ready { IsOk result → Ready S.TextSink out.new }
     ensures valid { UnfinishedIsValid 0 result parser.new }
-    ensures full { has_budget ≡ false → UnfinishedIsValid parser.new.stack.room result parser.new }
+    ensures full { may_stop ≡ false → UnfinishedIsValid parser.new.stack.room result parser.new }
     ensures grows { parser.old.looks ≤ parser.new.looks }
-    ensures least { has_budget ≡ false → parser.old.looks + first_looks_of parser.old ≤ parser.new.looks +
+    ensures least { may_stop ≡ false → parser.old.looks + first_looks_of parser.old ≤ parser.new.looks +
         unfinished_looks result parser.new }
-    ensures paced { has_budget ≡ true → IsOk result → Paced 0 parser.old parser.new }
-    ensures most { has_budget ≡ true → parser.new.looks ≤ most_looks parser.old }
     ensures same { Same parser.old parser.new }
 {
     // If the sink can't copy, the compiler drops all that follows a stop at a target.
@@ -216,9 +194,9 @@ pub fn print_steps<S: TextSink>(
         texts: &[],
         notes: out.can_copy(),
     };
-    let left = print_above(parser, out, has_budget, scope)?;
+    let left = print_above(parser, out, may_stop, scope)?;
     if scope.notes && stops_at_target(parser, left) {
-        return print_noting(parser, out, has_budget);
+        return print_noting(parser, out, may_stop);
     }
     Ok(left)
 }
@@ -343,50 +321,14 @@ pub fn print_path<S: TextSink>(
     }
 }
 
-/// Returns the place after a path that was printed within the budget. Returns `None` if anything
-/// is left of it or no fuel is left, as after an error.
+/// Returns the place after a path that was printed to its end. Returns `None` if anything is left of
+/// it, and after an error.
 #[inline(always)]
-pub fn end_within(parser: &Parser<'_, '_>, left: Option<Unfinished>) -> Option<usize>
-    ensures some { IfSome result (λ place. (left ≡ None) × (parser.now.state.place ≡ Some place) × (0 <
-        parser.now.fuel.left)) }
+pub fn end_of_print(parser: &Parser<'_, '_>, left: Option<Unfinished>) -> Option<usize>
+    ensures some { IfSome result (λ place. (left ≡ None) × (parser.now.state.place ≡ Some place)) }
 {
     match left {
-        None if parser.fuel.left > 0 => parser.place(),
-        _ => None,
-    }
-}
-
-/// Prints what is left of a valid symbol, with `withheld` more bytes, in larger stacks if this one is
-/// full. Counts its looks apart from the others. Returns how much of the path was printed.
-#[inline(never)]
-pub fn print_rest<S: TextSink>(
-    parser: &mut Parser<'_, '_>,
-    out: &mut SizeLimitedFmtAdapter<'_, S>,
-    withheld: usize,
-    printing_looks: &mut Looks,
-) -> Extent
-    requires ascii { IsAscii parser.old.source.symbol.now }
-    requires ready { Ready S.TextSink out.old }
-    requires valid { IsValid parser.old }
-    requires smaller { parser.old.stack.room ≤ MIDDLE_STACK }
-    ensures rest { PrintsRest S.TextSink withheld parser.old out.old result out.new printing_looks.old
-        printing_looks.new }
-    ensures apart { printing_looks.old ≤ printing_looks.new }
-    ensures looks { parser.new.looks ≡ parser.old.looks }
-{
-    let are_all_allowed = out.allow_more(withheld);
-    parser.fuel = Fuel::none();
-    let accepting = mem::replace(
-        &mut parser.looks,
-        mem::replace(printing_looks, Looks::new()),
-    );
-    let printed = print_path(parser, out);
-    *printing_looks = mem::replace(&mut parser.looks, accepting);
-    if printed.is_ok() {
-        Extent::Whole
-    } else if are_all_allowed && out.is_limit_reached() {
-        Extent::Cut
-    } else {
-        Extent::Part
+        None => parser.place(),
+        Some(_) => None,
     }
 }

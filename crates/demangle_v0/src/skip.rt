@@ -1,11 +1,10 @@
 //! Parts that a printing parse reads and does not print: impl paths, and folded arguments.
-ghost use Rattle.std.specs.Prelude.{◌≡◌, ◌+◌, ◌*◌, ◌≤◌, length, true, false, Some, Ok, IfSome, IfNone, IsTrue};
-ghost use Rattle.demangle_v0_parser.specs.Parsers.{FinishesSkip, IsValid, IsWithin, Paced, UnfinishedIsValid, Same, SkipsFull, SkipsOver, checked_at};
+ghost use Rattle.std.specs.Prelude.{◌≡◌, ◌≤◌, true, Some, Ok, IfSome, IfNone};
+ghost use Rattle.demangle_v0_parser.specs.Parsers.{FinishesSkip, IsValid, UnfinishedIsValid, Same, SkipsFull, SkipsOver, checked_at};
 ghost use Rattle.demangle_v0_parser.specs.Loops.{state_at};
 ghost use Rattle.demangle_v0_parser.specs.Skips.{after_skip, is_skipped, skipped_continuation};
 
 use crate::reading::read_steps;
-use demangle_v0_parser::fuel::{Fuel, fuel_after};
 use demangle_v0_parser::parse::Parser;
 use demangle_v0_parser::stops::{Checkpoint, ReadOutcome, Unfinished};
 use demangle_v0_parser::{Continuation, State};
@@ -77,8 +76,9 @@ pub fn finish_skip(parser: &mut Parser<'_, '_>, left: Unfinished) -> Option<Unfi
 }
 
 /// Reads the impl path or the folded arguments at which the parser is, and continues after
-/// them. Returns what is left to print if the stack is full before they end.
-#[inline(always)]
+/// them. Returns what is left to print if the stack is full before they end. They use up no fuel,
+/// but an error in them uses up all.
+#[inline(never)]
 pub fn skip_part(parser: &mut Parser<'_, '_>) -> Option<Unfinished>
     requires skipped { is_skipped parser.old.source.form parser.old.continuation ≡ true }
     requires valid { IsValid parser.old }
@@ -92,49 +92,13 @@ pub fn skip_part(parser: &mut Parser<'_, '_>) -> Option<Unfinished>
         continuation: parser.continuation,
         state: parser.state,
     };
+    let fuel = parser.fuel;
     parser.continuation = skipped_continuation(parser.continuation);
     parser.state.in_value = false;
-    finish_skip(parser, Unfinished::Skipping(base, printing))
-}
-
-/// Returns whether a parse may read a part without output. One with a budget may do so only at
-/// a byte or at the end, where the length of the symbol bounds the looks.
-#[inline(always)]
-pub fn may_skip(parser: &Parser<'_, '_>, has_budget: bool) -> bool
-    ensures within { IsTrue result → has_budget ≡ true → IsWithin parser.now }
-    ensures without { result ≡ false → has_budget ≡ true }
-{
-    if !has_budget {
-        return true;
-    }
-    match parser.place() {
-        Some(at) => at <= parser.source.symbol.len(),
-        None => false,
-    }
-}
-
-/// Reads the impl path or the folded arguments at which the parser is, continues after them,
-/// and uses up fuel for their bytes. Returns what is left to print if the stack is full before
-/// they end. Then no fuel is left, and neither is after an error.
-#[inline(never)]
-pub fn skip_for_fuel(parser: &mut Parser<'_, '_>) -> Option<Unfinished>
-    requires skipped { is_skipped parser.old.source.form parser.old.continuation ≡ true }
-    requires valid { IsValid parser.old }
-    ensures over { IfNone result (SkipsOver parser.old parser.new) }
-    ensures full { IfSome result (λ x. SkipsFull parser.old x parser.new) }
-    ensures paced { IsWithin parser.old → Paced 20 parser.old parser.new }
-    ensures most { IsWithin parser.old → parser.new.looks ≤ parser.old.looks + 32 * (length
-        parser.old.source.symbol.now + 1) + 7 }
-    ensures grows { parser.old.looks ≤ parser.new.looks }
-    ensures same { Same parser.old parser.new }
-{
-    let fuel = parser.fuel;
-    let start = parser.place();
-    if let Some(left) = skip_part(parser) {
+    let left = finish_skip(parser, Unfinished::Skipping(base, printing));
+    parser.fuel = fuel;
+    if parser.place().is_none() {
         parser.fuel.use_up();
-        return Some(left);
     }
-    let left = fuel_after(fuel.left, start, parser.place());
-    parser.fuel = Fuel { left, ..fuel };
-    None
+    left
 }

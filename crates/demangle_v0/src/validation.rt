@@ -1,17 +1,16 @@
 //! Validates v0 symbols: parses them without output, and finds the suffix.
-ghost use Rattle.std.specs.Prelude.{◌≡◌, ℕ, ◌+◌, ◌*◌, ◌≤◌, [], length, false, true, IsAscii, IfOk, IfSome, IsSome, OnErr, Some};
+ghost use Rattle.std.specs.Prelude.{◌≡◌, ◌+◌, ◌*◌, ◌≤◌, [], length, false, true, IsAscii, IfOk, IfSome, IsSome, Ok, OnErr, Some};
 ghost use Rattle.demangle_v0_grammar.specs.Items.{a_path};
-ghost use Rattle.demangle_v0_parser.specs.Parsers.{IsValid, Recounted, Same, all_of, trace_without_output};
+ghost use Rattle.demangle_v0_parser.specs.Parsers.{IsValid, Recounted, Same, trace_without_output};
 ghost use Rattle.demangle_v0_parser.specs.Measure.{AllInner};
 ghost use Rattle.demangle_v0_parser.specs.Loops.{first_state};
 ghost use Rattle.demangle_v0_grammar.specs.Reading.{starts_second_path, unit_end, suffix_place, read_at};
 ghost use Rattle.demangle_v0_grammar.specs.LookTotals.{allowed_in};
 ghost use Rattle.demangle_v0_grammar.specs.ValidationLooks.{looks_in, suffix_looks, accepting_looks};
 ghost use Rattle.demangle_sink.specs.Limit.{Ready};
-ghost use Rattle.demangle_v0.specs.FirstPaths.{PrintsExtent, SuffixOf};
+ghost use Rattle.demangle_v0.specs.FirstPaths.{PrintsPath};
 
-use crate::Extent;
-use crate::printer::{end_within, print_rest, print_steps};
+use crate::printer::{end_of_print, print_steps};
 use crate::reading::read_steps;
 use crate::stacks::{FULL_STACK, MIDDLE_STACK, SHORT_STACK};
 use demangle_sink::{SinkRefused, SizeLimitedFmtAdapter, TextSink};
@@ -20,7 +19,7 @@ use demangle_symbol::form::Form;
 use demangle_v0_parser::Continuation;
 use demangle_v0_parser::frames::UNUSED_FRAME;
 use demangle_v0_parser::parse::Parser;
-use demangle_v0_parser::stops::{ReadOutcome, Unfinished};
+use demangle_v0_parser::stops::ReadOutcome;
 use demangle_v0_tokens::source::Source;
 
 /// Reads the rest in a stack with room for every frame. Returns the place after it, or `None`
@@ -163,14 +162,6 @@ pub fn begins_path(symbol: &Symbol<'_>, place: usize, looks: &mut Looks) -> bool
     }
 }
 
-/// Returns whether a suffix may begin at a place: the end, or a `.`.
-fn may_begin_suffix(symbol: &Symbol<'_>, place: usize, looks: &mut Looks) -> bool
-    ensures grows { looks.old ≤ looks.new }
-    ensures most { looks.new ≤ looks.old + 1 }
-{
-    place == symbol.len() || symbol.is_at(b'.', place, looks)
-}
-
 /// Reads a second path after the first one, which ends at a place. Returns the place of the suffix,
 /// or `None` if the second path has an error.
 #[inline(always)]
@@ -191,67 +182,36 @@ fn end_after(parser: &mut Parser<'_, '_>, end: usize) -> Option<usize>
     path_end(parser, end)
 }
 
-/// A symbol whose first path was printed before it was validated.
-#[derive(Clone, Copy)]
-pub struct FirstPath {
-    /// The place of the suffix.
-    pub end: usize,
-    /// How much of the path was printed.
-    pub extent: Extent,
-}
-
-/// Prints the first path, at which the parser is, and reads a second one. Returns the symbol, or
-/// `None` if a path has an error. Then a part of the first path may be printed.
+/// Prints the first path, at which the parser is, before it is known whether the symbol is valid, and
+/// reads a second one. Returns the place of the suffix, or `None` if the second path has an error.
 ///
-/// The path is printed before it is known whether the symbol is valid, until the fuel is used up.
-/// Then the symbol is validated, and only the rest of a valid one is printed, with `withheld` more
-/// bytes. The looks up to that are bounded by the fuel and the length of the symbol, and by less if it
-/// was not validated.
-///
-/// Fails if the limit or the sink rejects a piece, or the limit a reference, before that.
+/// Fails if the path is not printed to its end: if the fuel is used up, the stack is full, the path
+/// has an error, the limit or the sink rejects a piece, or the limit a reference. Then a part of it
+/// may be printed. The looks are bounded by the length of the symbol and the bytes that may be read
+/// again.
 #[inline(always)]
-pub fn print_or_validate<S: TextSink>(
+pub fn print_to_suffix<S: TextSink>(
     parser: &mut Parser<'_, '_>,
     out: &mut SizeLimitedFmtAdapter<'_, S>,
-    withheld: usize,
-    printing_looks: &mut Looks,
-) -> Result<Option<FirstPath>, SinkRefused>
+) -> Result<Option<usize>, SinkRefused>
     requires ascii { IsAscii parser.old.source.symbol.now }
     requires ready { Ready S.TextSink out.old }
     requires path { parser.old.continuation ≡ Continuation.Path }
     requires state { parser.old.state ≡ first_state 0 }
     requires empty { parser.old.stack.frames ≡ [] }
     requires smaller { parser.old.stack.room ≤ MIDDLE_STACK }
-    ensures suffix { IfOk result (λ path. SuffixOf parser.old.source.symbol.now path) }
-    ensures prints { IfOk result (λ path. IfSome path (λ first. PrintsExtent S.TextSink withheld out.old
-        parser.old.source.symbol.now parser.old.source.form first.extent out.new)) }
+    ensures suffix { IfOk result (λ end. end ≡ suffix_place parser.old.source.symbol.now) }
+    ensures prints { IfOk result (λ end. PrintsPath S.TextSink out.old parser.old.source.symbol.now
+        parser.old.source.form (Ok tt) out.new) }
     ensures grows { parser.old.looks ≤ parser.new.looks }
-    ensures most { parser.new.looks ≤ parser.old.looks + 4 * all_of parser.old.fuel + 76 * (length
-        parser.old.source.symbol.now + 1) + 8 }
-    ensures early { OnErr result (parser.new.looks ≤ parser.old.looks + 4 * all_of parser.old.fuel +
-        36 * (length parser.old.source.symbol.now + 1) + 7) }
-    ensures apart { printing_looks.old ≤ printing_looks.new }
-    ensures few { (most : ℕ) → out.old.reread.most ≡ Some most → printing_looks.new ≤
-        printing_looks.old + 20 * (length parser.old.source.symbol.now + 1 + most) }
+    ensures most { IfSome out.old.reread.most (λ most. parser.new.looks ≤ parser.old.looks + 17 * (length
+        parser.old.source.symbol.now + 1 + most) + 32 * (length parser.old.source.symbol.now + 1) + 3) }
+    ensures early { IfSome out.old.reread.most (λ most. OnErr result (parser.new.looks ≤ parser.old.looks +
+        17 * (length parser.old.source.symbol.now + 1 + most) + 2)) }
 {
     let left = print_steps(parser, out, true)?;
-    if let Some(end) = end_within(parser, left) {
-        let Some(end) = end_after(parser, end) else {
-            return Ok(None);
-        };
-        let extent = Extent::Whole;
-        return Ok(Some(FirstPath { end, extent }));
-    }
-    let Some(end) = suffix_at(parser.source.symbol, &mut parser.looks) else {
-        return Ok(None);
+    let Some(end) = end_of_print(parser, left) else {
+        return Err(SinkRefused);
     };
-    let is_suffix = may_begin_suffix(parser.source.symbol, end, &mut parser.looks);
-    let extent = match left {
-        None => Extent::Whole,
-        Some(Unfinished::Printing) if is_suffix => {
-            print_rest(parser, out, withheld, printing_looks)
-        }
-        Some(_) => Extent::Part,
-    };
-    Ok(Some(FirstPath { end, extent }))
+    Ok(end_after(parser, end))
 }

@@ -81,17 +81,13 @@ checked_at m p s = record m { continuation = p; state = s }
 abbrev pub checkpoint_of : Parser → Checkpoint
 checkpoint_of m = record { continuation = m.continuation; state = m.state }
 
--- The fuel of a parser: all of it, for the steps outside of references and within them, and none.
+-- The fuel of a print that may be in vain, at its start, and of any other parse.
 
-abbrev pub all_of : Fuel → ℕ
-all_of fuel = fuel.left + fuel.reserve
+abbrev pub first_fuel : Fuel
+first_fuel = record { used = 0; most = 128; outer = 0 }
 
 abbrev pub no_fuel : Fuel
-no_fuel = record { left = 0; reserve = 0; outer = 0; unpaid = 0; is_inside = false }
-
--- no other fuel, or none for the next step
-abbrev pub KeepsFuel : Parser → Parser → Type 0
-KeepsFuel m k = 0 < k.fuel.left → k.fuel ≡ m.fuel
+no_fuel = record { used = 0; most = 0; outer = 0 }
 
 -- A new parser: of a path, or of the same parse, with room for this many frames.
 
@@ -191,34 +187,20 @@ AdvancedWithoutOutput p m result k = Performed (unused_output false) p m tt resu
 abbrev pub AdvancedRest : Items → ℕ → ℕ → ℕ → Parser → Result Continuation StepError → Parser → Type 0
 AdvancedRest items words weight above m result k = (is_printed : Bool) → PerformedRest (unused_output is_printed) items words weight above m tt result k tt
 
--- The pace of a step.
+-- The looks of a step.
 
 -- the bytes from a place on; none after an error
 abbrev pub left_at : ℕ → Place → ℕ
 left_at n None = 0
 left_at n (Some i) = n - i
 
--- A step makes four looks for each byte that it reads, and `more` looks. A reference leads back, which the fuel pays for.
--- Nothing is known once the fuel is used up.
-abbrev pub Paced : ℕ → Parser → Parser → Type 0
-Paced more m k = 0 < k.fuel.left → k.looks + 4 * all_of k.fuel + 4 * left_at (length m.source.symbol.now) k.state.place ≤ m.looks + 4 * all_of m.fuel + 4 * left_at (length m.source.symbol.now) m.state.place + more
-
--- the same without a reference: at most four looks for each byte that is read, and `more` looks
+-- at most four looks for each byte that is read, and `more` looks
 abbrev pub ReadsOn : ℕ → Parser → Parser → Type 0
 ReadsOn more m k = k.looks + 4 * left_at (length m.source.symbol.now) k.state.place ≤ m.looks + 4 * left_at (length m.source.symbol.now) m.state.place + more
 
 -- at most four looks for each byte that is left, and `more` looks, whatever was read
 abbrev pub LooksAt : ℕ → Parser → Parser → Type 0
 LooksAt more m k = k.looks ≤ m.looks + 4 * left_at (length m.source.symbol.now) m.state.place + more
-
--- the most looks of a parse with a budget, whatever its result: the fuel and the bytes that are left pay for all but those
--- of the last part that is not printed
-abbrev pub most_looks : Parser → ℕ
-most_looks m = m.looks + 4 * all_of m.fuel + 4 * left_at (length m.source.symbol.now) m.state.place + 32 * (length m.source.symbol.now + 1) + 7
-
--- a byte or the end is next
-abbrev pub IsWithin : Parser → Type 0
-IsWithin m = (i : ℕ) × (m.state.place ≡ Some i) × (i ≤ length m.source.symbol.now)
 
 -- The effect of the loops.
 
@@ -272,10 +254,6 @@ PrintsSteps sink m v result k w = PrintDone (printing_of sink m) m.continuation 
 -- `m` printed until nothing was left
 abbrev pub PrintsAll : {S : Type 0} → Sinks S → Parser → SizeLimitedFmtAdapter S → Result (Unit {0}) SinkRefused → Parser → SizeLimitedFmtAdapter S → Type 0
 PrintsAll sink m v result k w = Ended (printing_of sink m) m.continuation (machine_of m v) result w k.looks
-
--- the same, with a count of looks of its own, which was `old` and is `new`
-abbrev pub PrintsApart : {S : Type 0} → Sinks S → Parser → SizeLimitedFmtAdapter S → Result (Unit {0}) SinkRefused → SizeLimitedFmtAdapter S → (old new : ℕ) → Type 0
-PrintsApart sink m v result w old new = Ended (printing_of sink m) m.continuation (machine_of (looked m old) v) result w new
 
 -- the same for the unfinished part of a text
 abbrev pub PrintsOn : {S : Type 0} → Sinks S → Parser → Unfinished → SizeLimitedFmtAdapter S → Result (Option Unfinished) SinkRefused → Parser → SizeLimitedFmtAdapter S → Type 0

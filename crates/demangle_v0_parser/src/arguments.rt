@@ -1,10 +1,8 @@
 //! Continuations of generic arguments.
-#![tactic(auto, using(crate::proofs::Pace::place_left))]
-
 ghost use Rattle.std.specs.Prelude.{◌≡◌, ◌+◌, ◌≤◌, false, Ok, Some};
 ghost use Rattle.demangle_v0_parser.specs.Productions.{arguments_continuation, argument_continuation, argument_place, argument_costs};
 ghost use Rattle.demangle_v0_grammar.specs.LookTotals.{total};
-ghost use Rattle.demangle_v0_parser.specs.Parsers.{CanAdvance, Advanced, AdvancedUnfolded, restated, Paced};
+ghost use Rattle.demangle_v0_parser.specs.Parsers.{CanAdvance, Advanced, AdvancedUnfolded, restated};
 ghost use Rattle.demangle_v0_parser.specs.Steps.{looks_bound};
 
 use crate::Continuation;
@@ -17,8 +15,7 @@ impl Parser<'_, '_> {
     #[inline(always)]
     pub(super) fn generic(&mut self) -> Continuation
         requires can_step { CanAdvance Continuation.Generic self.old }
-        ensures performs { Advanced Continuation.Generic self.old (Ok result) self.new }
-        ensures paced { Paced 20 self.old self.new }
+        ensures { Advanced Continuation.Generic self.old (Ok result) self.new }
     {
         if self.state.in_value {
             self.put(FixedText::PathSeparator);
@@ -34,8 +31,7 @@ impl Parser<'_, '_> {
     #[inline(always)]
     pub(super) fn arguments(&mut self, is_first: bool) -> Continuation
         requires can_step { CanAdvance Continuation.NextArgument self.old }
-        ensures performs { AdvancedUnfolded is_first (arguments_continuation is_first) self.old (Ok result) self.new }
-        ensures paced { Paced 20 self.old self.new }
+        ensures { AdvancedUnfolded is_first (arguments_continuation is_first) self.old (Ok result) self.new }
     {
         let Some(at) = self.element_place() else {
             return self.end_with(FixedText::Greater);
@@ -61,7 +57,6 @@ impl Parser<'_, '_> {
         ensures looks { self.new.looks ≤ self.old.looks + total (argument_costs self.old.source.symbol.now
             at) }
         ensures least_looks { self.new.looks ≤ self.old.looks + 2 }
-        ensures paced { Paced 8 self.old self.new }
     {
         self.state.in_value = false;
         if self.source.symbol.is_at(b'L', at, &mut self.looks) {

@@ -1,10 +1,8 @@
 //! Back references, whose target is a path, type or constant before them.
-#![tactic(auto, using(crate::proofs::Pace::place_left))]
-
 ghost use Rattle.std.specs.Prelude.{◌≡◌, ◌+◌, ◌≤◌, ◌<◌, length, Some, Ok, false, IfOk, IsOk};
 ghost use Rattle.demangle_sink.specs.Limit.{and_one};
 ghost use Rattle.demangle_v0_grammar.specs.References.{bytes_after};
-ghost use Rattle.demangle_v0_parser.specs.Parsers.{Followed, CanAdvance, KeepsFuel, LooksAt, Paced, Performed, Placed, ReadsOn};
+ghost use Rattle.demangle_v0_parser.specs.Parsers.{Followed, CanAdvance, LooksAt, Performed, Placed, ReadsOn};
 
 use crate::frames::Frame;
 use crate::parse::Parser;
@@ -39,11 +37,9 @@ impl Parser<'_, '_> {
         requires can_step { CanAdvance Continuation.Path self.old }
         requires ready { V.ready output.old }
         ensures performs { Followed V.Output unit self.old output.old result self.new output.new }
-        ensures paced { IsOk result → Paced 20 self.old self.new }
         ensures grows { self.old.looks ≤ self.new.looks }
         ensures ends { V.is_printed ≡ false → IfOk result (λ next. next ≡ Continuation.End) }
         ensures placed { V.is_printed ≡ false → Placed self.old self.new }
-        ensures fuel { V.is_printed ≡ false → KeepsFuel self.old self.new }
         ensures reads { V.is_printed ≡ false → IsOk result → ReadsOn 5 self.old self.new }
         ensures most { V.is_printed ≡ false → LooksAt 5 self.old self.new }
     {
@@ -85,14 +81,13 @@ impl Parser<'_, '_> {
     #[inline(always)]
     pub(super) fn after_backref<V: Output>(&mut self, output: &mut V) -> Continuation
         requires can_step { CanAdvance Continuation.AfterBackref self.old }
-        ensures performs { Performed V.Output Continuation.AfterBackref self.old output.old (Ok result) self.new
+        ensures { Performed V.Output Continuation.AfterBackref self.old output.old (Ok result) self.new
             output.new }
-        ensures paced { Paced 20 self.old self.new }
     {
         let after = self.state.lifetimes as usize;
         let end = self.place();
         output.give_back(self.bytes_after(end));
-        self.fuel.leave(end, after, self.source.symbol.len());
+        self.fuel.leave(end, after);
         self.state.place = Some(after);
         Continuation::End
     }

@@ -1,8 +1,6 @@
 //! Continuations of the bindings of a dyn trait path.
-#![tactic(auto, using(crate::proofs::Pace::place_left))]
-
 ghost use Rattle.std.specs.Prelude.{◌≡◌, Some, None, Ok, if◌then◌else◌, IsOk};
-ghost use Rattle.demangle_v0_parser.specs.Parsers.{Performed, CanPerform, CanAdvance, Advanced, AdvancedRest, Paced};
+ghost use Rattle.demangle_v0_parser.specs.Parsers.{Performed, CanPerform, CanAdvance, Advanced, AdvancedRest};
 ghost use Rattle.demangle_v0_parser.specs.Continuations.{bindings_left};
 
 use crate::names::has_encoded_name;
@@ -44,8 +42,7 @@ impl Parser<'_, '_> {
     #[inline(always)]
     fn binding(&mut self, is_bracket_open: bool) -> Continuation
         requires can_step { CanAdvance Continuation.Bindings self.old }
-        ensures performs { AdvancedRest (bindings_left is_bracket_open) 8 2 4 self.old (Ok result) self.new }
-        ensures paced { Paced 20 self.old self.new }
+        ensures { AdvancedRest (bindings_left is_bracket_open) 8 2 4 self.old (Ok result) self.new }
     {
         let Some(at) = self.state.place else {
             self.state.pending_text = closing_text(is_bracket_open);
@@ -65,8 +62,7 @@ impl Parser<'_, '_> {
     #[inline(always)]
     pub(super) fn bindings(&mut self) -> Continuation
         requires can_step { CanAdvance Continuation.Bindings self.old }
-        ensures performs { Advanced Continuation.Bindings self.old (Ok result) self.new }
-        ensures paced { Paced 20 self.old self.new }
+        ensures { Advanced Continuation.Bindings self.old (Ok result) self.new }
     {
         self.binding(self.state.is_bracket_open)
     }
@@ -75,8 +71,7 @@ impl Parser<'_, '_> {
     #[inline(always)]
     pub(super) fn further_bindings(&mut self) -> Continuation
         requires can_step { CanAdvance Continuation.FurtherBindings self.old }
-        ensures performs { Advanced Continuation.FurtherBindings self.old (Ok result) self.new }
-        ensures paced { Paced 20 self.old self.new }
+        ensures { Advanced Continuation.FurtherBindings self.old (Ok result) self.new }
     {
         self.binding(true)
     }
@@ -88,13 +83,12 @@ impl Parser<'_, '_> {
         output: &mut V,
     ) -> Result<Continuation, StepError>
         requires can_step { CanPerform V.Output Continuation.BindingName self.old output.old }
-        ensures performs { Performed V.Output Continuation.BindingName self.old output.old result self.new output.new }
-        ensures paced { IsOk result → Paced 20 self.old self.new }
+        ensures { Performed V.Output Continuation.BindingName self.old output.old result self.new output.new }
     {
         match self.token_at(TokenKind::BindingName, output) {
             TokenOutcome::Parsed(name, next) => {
                 self.state.place = next;
-                self.fuel.use_up_if(has_encoded_name(&name));
+                self.fuel.pay_text(has_encoded_name(&name));
                 self.emit(&name, output)?;
                 Ok(Continuation::BindingValue)
             }
@@ -106,8 +100,7 @@ impl Parser<'_, '_> {
     #[inline(always)]
     pub(super) fn bound_value(&mut self) -> Continuation
         requires can_step { CanAdvance Continuation.BindingValue self.old }
-        ensures performs { Advanced Continuation.BindingValue self.old (Ok result) self.new }
-        ensures paced { Paced 20 self.old self.new }
+        ensures { Advanced Continuation.BindingValue self.old (Ok result) self.new }
     {
         self.push(Continuation::FurtherBindings);
         self.state.in_value = false;

@@ -1,9 +1,7 @@
 //! Continuations of lists of constants: arrays, tuples and the fields of variants.
-#![tactic(auto, using(crate::proofs::Pace::place_left))]
-
 ghost use Rattle.std.specs.Prelude.{◌≡◌, Ok};
 ghost use Rattle.demangle_v0_parser.specs.Productions.{at_first, after_first, after_next, element_continuation, close_of};
-ghost use Rattle.demangle_v0_parser.specs.Parsers.{CanAdvance, Advanced, Paced};
+ghost use Rattle.demangle_v0_parser.specs.Parsers.{CanAdvance, Advanced};
 
 use crate::Continuation;
 use crate::parse::Parser;
@@ -74,8 +72,7 @@ impl Parser<'_, '_> {
     #[inline(always)]
     pub(super) fn first_list_constant(&mut self, list: ConstantList) -> Continuation
         requires can_step { CanAdvance Continuation.Constant self.old }
-        ensures performs { Advanced (at_first list) self.old (Ok result) self.new }
-        ensures paced { Paced 20 self.old self.new }
+        ensures { Advanced (at_first list) self.old (Ok result) self.new }
     {
         if self.ends_list() {
             return self.end_with(list.close());
@@ -89,8 +86,7 @@ impl Parser<'_, '_> {
     #[inline(always)]
     pub(super) fn next_list_constant(&mut self, list: ConstantList) -> Continuation
         requires can_step { CanAdvance Continuation.Constant self.old }
-        ensures performs { Advanced (after_next list) self.old (Ok result) self.new }
-        ensures paced { Paced 20 self.old self.new }
+        ensures { Advanced (after_next list) self.old (Ok result) self.new }
     {
         if self.ends_list() {
             return self.end_with(list.close());
@@ -105,8 +101,7 @@ impl Parser<'_, '_> {
     #[inline(always)]
     pub(super) fn second_tuple_constant(&mut self) -> Continuation
         requires can_step { CanAdvance Continuation.SecondTupleConstant self.old }
-        ensures performs { Advanced Continuation.SecondTupleConstant self.old (Ok result) self.new }
-        ensures paced { Paced 20 self.old self.new }
+        ensures { Advanced Continuation.SecondTupleConstant self.old (Ok result) self.new }
     {
         if self.ends_list() {
             self.put(FixedText::TrailingComma);

@@ -1,9 +1,7 @@
 //! Continuations of constants.
-#![tactic(auto, using(crate::proofs::Pace::place_left))]
-
 ghost use Rattle.std.specs.Prelude.{◌≡◌, ◌==◌, ◌+◌, ◌≤◌, None, Ok, Some, if◌then◌else◌, IsOk};
 ghost use Rattle.demangle_v0_grammar.specs.Table.{constant};
-ghost use Rattle.demangle_v0_parser.specs.Parsers.{Performed, PerformedRest, CanPerform, CanAdvance, CanPrint, AdvancedRest, braced, Paced};
+ghost use Rattle.demangle_v0_parser.specs.Parsers.{Performed, PerformedRest, CanPerform, CanAdvance, CanPrint, AdvancedRest, braced};
 ghost use Rattle.demangle_v0_parser.specs.Productions.{shared_constant, variant_constant};
 ghost use Rattle.demangle_v0_parser.specs.Steps.{looks_bound};
 ghost use Rattle.demangle_v0_tokens.specs.Tags.{constant_of};
@@ -23,7 +21,6 @@ impl Parser<'_, '_> {
         ensures performs { Performed V.Output Continuation.StrLiteral self.old output.old result self.new output.new }
         ensures own_looks { self.new.looks ≤ self.old.looks + looks_bound 8 self.old.source.symbol.now
             self.old.state.place }
-        ensures paced { IsOk result → Paced 8 self.old self.new }
     {
         self.end_with_token(TokenKind::StrLiteral, output)
     }
@@ -37,7 +34,6 @@ impl Parser<'_, '_> {
         ensures performs { Performed V.Output Continuation.Number self.old output.old result self.new output.new }
         ensures own_looks { self.new.looks ≤ self.old.looks + looks_bound 8 self.old.source.symbol.now
             self.old.state.place }
-        ensures paced { IsOk result → Paced 8 self.old self.new }
     {
         self.end_with_token(TokenKind::Number, output)
     }
@@ -70,9 +66,8 @@ impl Parser<'_, '_> {
         output: &mut V,
     ) -> Result<Continuation, StepError>
         requires can_step { CanPerform V.Output Continuation.Constant self.old output.old }
-        ensures performs { PerformedRest V.Output (constant_of self.old.state.in_value tag ConstantKind.Signed) 6
+        ensures { PerformedRest V.Output (constant_of self.old.state.in_value tag ConstantKind.Signed) 6
             6 9 self.old output.old result self.new output.new }
-        ensures paced { IsOk result → Paced 20 self.old self.new }
     {
         let at = self.state.place_or_abort()?;
         self.state.letter = tag;
@@ -88,9 +83,8 @@ impl Parser<'_, '_> {
     #[inline(always)]
     fn shared_reference(&mut self) -> Continuation
         requires can_step { CanAdvance Continuation.Constant self.old }
-        ensures performs { AdvancedRest (shared_constant self.old.state.in_value) 6 6 9 self.old (Ok result)
+        ensures { AdvancedRest (shared_constant self.old.state.in_value) 6 6 9 self.old (Ok result)
             self.new }
-        ensures paced { Paced 20 self.old self.new }
     {
         let Some(at) = self.state.place else {
             return self.with_braces(Continuation::ReferenceConstant);
@@ -99,7 +93,7 @@ impl Parser<'_, '_> {
         if self.source.symbol.is_at(b'e', at, &mut self.looks) {
             self.state.place = Some(at + 1);
             // The characters of a string are slow to print.
-            self.fuel.use_up();
+            self.fuel.pay_text(true);
             return Continuation::StrLiteral;
         }
         self.with_braces(Continuation::ReferenceConstant)
@@ -109,9 +103,8 @@ impl Parser<'_, '_> {
     #[inline(always)]
     fn variant_path(&mut self) -> Continuation
         requires can_step { CanAdvance Continuation.Constant self.old }
-        ensures performs { AdvancedRest (variant_constant self.old.state.in_value) 6 6 9 self.old (Ok result)
+        ensures { AdvancedRest (variant_constant self.old.state.in_value) 6 6 9 self.old (Ok result)
             self.new }
-        ensures paced { Paced 20 self.old self.new }
     {
         self.push(Continuation::Variant);
         if self.state.in_value {
@@ -130,9 +123,8 @@ impl Parser<'_, '_> {
         output: &mut V,
     ) -> Result<Continuation, StepError>
         requires can_step { CanPerform V.Output Continuation.Constant self.old output.old }
-        ensures performs { PerformedRest V.Output (constant self.old.state.in_value tag) 6 6 9 self.old
+        ensures { PerformedRest V.Output (constant self.old.state.in_value tag) 6 6 9 self.old
             output.old result self.new output.new }
-        ensures paced { IsOk result → Paced 20 self.old self.new }
     {
         let kind = constant_kind(tag).ok_or(StepError::Abort(FixedText::Invalid))?;
         match kind {
@@ -146,7 +138,7 @@ impl Parser<'_, '_> {
             ConstantKind::Char => self.end_with_token(TokenKind::Character, output),
             ConstantKind::Text => {
                 // The characters of a string are slow to print.
-                self.fuel.use_up();
+                self.fuel.pay_text(true);
                 Ok(self.with_braces(Continuation::StrConstant))
             }
             ConstantKind::Shared => Ok(self.shared_reference()),
@@ -162,14 +154,13 @@ impl Parser<'_, '_> {
     #[inline(never)]
     pub(super) fn constant<V: Output>(&mut self, output: &mut V) -> Result<Continuation, StepError>
         requires can_step { CanPerform V.Output Continuation.Constant self.old output.old }
-        ensures performs { Performed V.Output Continuation.Constant self.old output.old result self.new output.new }
-        ensures paced { IsOk result → Paced 20 self.old self.new }
+        ensures { Performed V.Output Continuation.Constant self.old output.old result self.new output.new }
     {
         let at = self.state.place_or_abort()?;
         let (tag, next) = self.source.symbol.tag(at, &mut self.looks)?;
         // Every constant raises the depth, even a number or a placeholder. A basic type does not.
         self.enter()?;
-        self.fuel.spend();
+        self.fuel.pay_part();
         self.state.place = Some(next);
         self.tagged_constant(tag, output)
     }

@@ -1,9 +1,7 @@
 //! Calls the method of each continuation.
-#![tactic(auto, using(crate::proofs::Pace::place_left))]
-
 ghost use Rattle.std.specs.Prelude.{◌≡◌, ◌+◌, ◌≤◌, true, false, IsOk};
 ghost use Rattle.demangle_v0_parser.specs.Skips.{is_skipped};
-ghost use Rattle.demangle_v0_parser.specs.Parsers.{PerformedSteps, CanPerform, Paced};
+ghost use Rattle.demangle_v0_parser.specs.Parsers.{PerformedSteps, CanPerform};
 ghost use Rattle.demangle_v0_parser.specs.Loops.{first_looks};
 
 use crate::constant_lists::ConstantList;
@@ -32,7 +30,6 @@ impl Parser<'_, '_> {
             self.new output.new }
         ensures least { continuation ≡ Continuation.Path → self.old.looks +
             first_looks Continuation.Path self.old.state ≤ self.new.looks }
-        ensures paced { IsOk result → Paced 20 self.old self.new }
     {
         match continuation {
             Continuation::Path => self.path(output),

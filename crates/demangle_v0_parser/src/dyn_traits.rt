@@ -1,9 +1,7 @@
 //! Continuations of trait objects, which are `dyn` types.
-#![tactic(auto, using(crate::proofs::Pace::place_left))]
-
 ghost use Rattle.std.specs.Prelude.{◌+◌, ◌≤◌, Ok, if◌then◌else◌, IsOk};
 ghost use Rattle.demangle_v0_parser.specs.Productions.{dyn_type};
-ghost use Rattle.demangle_v0_parser.specs.Parsers.{Performed, CanPerform, CanAdvance, Advanced, AdvancedRest, AdvancedUnfolded, Paced};
+ghost use Rattle.demangle_v0_parser.specs.Parsers.{Performed, CanPerform, CanAdvance, Advanced, AdvancedRest, AdvancedUnfolded};
 ghost use Rattle.demangle_v0_parser.specs.Steps.{looks_bound};
 
 use crate::lists::separator;
@@ -18,8 +16,7 @@ impl Parser<'_, '_> {
     #[inline(always)]
     pub(super) fn dyn_type(&mut self) -> Continuation
         requires can_step { CanAdvance Continuation.DynBinder self.old }
-        ensures performs { AdvancedRest dyn_type 5 4 5 self.old (Ok result) self.new }
-        ensures paced { Paced 20 self.old self.new }
+        ensures { AdvancedRest dyn_type 5 4 5 self.old (Ok result) self.new }
     {
         // The lifetime of the type follows the traits, outside their binder. So the frame has only
         // the lifetimes that are in scope without it.
@@ -37,8 +34,7 @@ impl Parser<'_, '_> {
         output: &mut V,
     ) -> Result<Continuation, StepError>
         requires can_step { CanPerform V.Output Continuation.DynBinder self.old output.old }
-        ensures performs { Performed V.Output Continuation.DynBinder self.old output.old result self.new output.new }
-        ensures paced { IsOk result → Paced 20 self.old self.new }
+        ensures { Performed V.Output Continuation.DynBinder self.old output.old result self.new output.new }
     {
         let at = self.state.place_or_abort()?;
         let (number, next) = self
@@ -64,7 +60,6 @@ impl Parser<'_, '_> {
             self.old (Ok result) self.new }
         ensures own_looks { self.new.looks ≤ self.old.looks + looks_bound 16 self.old.source.symbol.now
             self.old.state.place }
-        ensures paced { Paced 16 self.old self.new }
     {
         if self.ends_list() {
             self.state.is_bracket_open = false;
@@ -84,8 +79,7 @@ impl Parser<'_, '_> {
         output: &mut V,
     ) -> Result<Continuation, StepError>
         requires can_step { CanPerform V.Output Continuation.TraitPath self.old output.old }
-        ensures performs { Performed V.Output Continuation.TraitPath self.old output.old result self.new output.new }
-        ensures paced { IsOk result → Paced 20 self.old self.new }
+        ensures { Performed V.Output Continuation.TraitPath self.old output.old result self.new output.new }
     {
         let at = self.state.place_or_abort()?;
         if self.source.symbol.is_at(b'B', at, &mut self.looks) {
@@ -108,9 +102,8 @@ impl Parser<'_, '_> {
     #[inline(always)]
     pub(super) fn trait_argument(&mut self, is_first: bool) -> Continuation
         requires can_step { CanAdvance Continuation.NextTraitArgument self.old }
-        ensures performs { AdvancedUnfolded is_first (if is_first then Continuation.FirstTraitArgument else
+        ensures { AdvancedUnfolded is_first (if is_first then Continuation.FirstTraitArgument else
             Continuation.NextTraitArgument) self.old (Ok result) self.new }
-        ensures paced { Paced 20 self.old self.new }
     {
         let Some(at) = self.element_place() else {
             self.state.is_bracket_open = true;
@@ -126,8 +119,7 @@ impl Parser<'_, '_> {
     #[inline(always)]
     pub(super) fn folded_trait_arguments(&mut self) -> Continuation
         requires can_step { CanAdvance Continuation.FoldedTraitArguments self.old }
-        ensures performs { Advanced Continuation.FoldedTraitArguments self.old (Ok result) self.new }
-        ensures paced { Paced 20 self.old self.new }
+        ensures { Advanced Continuation.FoldedTraitArguments self.old (Ok result) self.new }
     {
         self.put(FixedText::Placeholder);
         self.state.is_bracket_open = true;
@@ -141,8 +133,7 @@ impl Parser<'_, '_> {
         output: &mut V,
     ) -> Result<Continuation, StepError>
         requires can_step { CanPerform V.Output Continuation.DynLifetime self.old output.old }
-        ensures performs { Performed V.Output Continuation.DynLifetime self.old output.old result self.new output.new }
-        ensures paced { IsOk result → Paced 20 self.old self.new }
+        ensures { Performed V.Output Continuation.DynLifetime self.old output.old result self.new output.new }
     {
         self.end_with_token(TokenKind::DynLifetime, output)
     }

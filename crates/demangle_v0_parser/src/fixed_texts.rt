@@ -1,9 +1,7 @@
 //! Continuations that do nothing but queue a fixed text.
-#![tactic(auto, using(crate::proofs::Pace::place_left))]
-
 ghost use Rattle.std.specs.Prelude.{◌≡◌, Ok, IsSome};
 ghost use Rattle.demangle_v0_parser.specs.Productions.{text_step_at};
-ghost use Rattle.demangle_v0_parser.specs.Parsers.{Advanced, Paced};
+ghost use Rattle.demangle_v0_parser.specs.Parsers.{Advanced};
 ghost use Rattle.demangle_v0_parser.specs.Measure.{Fits};
 
 use crate::Continuation;
@@ -80,7 +78,6 @@ impl Parser<'_, '_> {
         requires fits { Fits continuation self.old.state.depth_left self.old.state.lifetimes }
         ensures performs { Advanced continuation self.old (Ok result) self.new }
         ensures looks { self.new.looks ≡ self.old.looks }
-        ensures paced { Paced 0 self.old self.new }
     {
         let Some(left) = text_step_at(continuation) else {
             return Continuation::End;

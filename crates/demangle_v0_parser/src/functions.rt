@@ -1,12 +1,10 @@
 //! Continuations of function types.
-#![tactic(auto, using(crate::proofs::Pace::place_left))]
-
 ghost use Rattle.std.specs.Prelude.{◌≡◌, ℕ, ◌+◌, ◌≤◌, List, Ok, true, if◌then◌else◌, [], IsOk};
 ghost use Rattle.demangle_v0_grammar.specs.Reading.{Form};
 ghost use Rattle.demangle_v0_tokens.specs.Tags.{constructed_of};
 ghost use Rattle.demangle_v0_tokens.specs.Tokens.{texts_of};
 ghost use Rattle.demangle_v0_tokens.specs.declared.tags.ConstructedType.TheVariants as ConstructedType;
-ghost use Rattle.demangle_v0_parser.specs.Parsers.{Performed, PerformedRest, CanPerform, CanAdvance, Advanced, Paced};
+ghost use Rattle.demangle_v0_parser.specs.Parsers.{Performed, PerformedRest, CanPerform, CanAdvance, Advanced};
 ghost use Rattle.demangle_v0_parser.specs.Steps.{looks_bound};
 
 use crate::lists::separator;
@@ -40,10 +38,9 @@ impl Parser<'_, '_> {
             output.old result self.new output.new }
         ensures own_looks { self.new.looks ≤ self.old.looks + looks_bound 16 self.old.source.symbol.now
             self.old.state.place }
-        ensures paced { IsOk result → Paced 16 self.old self.new }
     {
         let at = self.state.place_or_abort()?;
-        self.fuel.spend();
+        self.fuel.pay_part();
         let (number, next) = self
             .source
             .symbol
@@ -67,7 +64,6 @@ impl Parser<'_, '_> {
             output.new }
         ensures own_looks { self.new.looks ≤ self.old.looks + looks_bound 8 self.old.source.symbol.now
             self.old.state.place }
-        ensures paced { IsOk result → Paced 8 self.old self.new }
     {
         match self.token_at(TokenKind::FunctionQualifiers, output) {
             TokenOutcome::Parsed(head, next) => {
@@ -88,10 +84,9 @@ impl Parser<'_, '_> {
     #[inline(always)]
     pub(super) fn parameter(&mut self, is_first: bool) -> Continuation
         requires can_step { CanAdvance Continuation.NextParameter self.old }
-        ensures performs { Advanced
+        ensures { Advanced
             (if is_first then Continuation.FirstParameter else Continuation.NextParameter)
             self.old (Ok result) self.new }
-        ensures paced { Paced 20 self.old self.new }
     {
         if self.ends_list() {
             self.put(FixedText::CloseParen);
@@ -108,8 +103,7 @@ impl Parser<'_, '_> {
     #[inline(always)]
     pub(super) fn returns(&mut self) -> Continuation
         requires can_step { CanAdvance Continuation.Returns self.old }
-        ensures performs { Advanced Continuation.Returns self.old (Ok result) self.new }
-        ensures paced { Paced 20 self.old self.new }
+        ensures { Advanced Continuation.Returns self.old (Ok result) self.new }
     {
         let Some(at) = self.state.place else {
             self.put(FixedText::Arrow);

@@ -1,9 +1,7 @@
 //! Continuations of the paths of impls, and of self types.
-#![tactic(auto, using(crate::proofs::Pace::place_left))]
-
 ghost use Rattle.std.specs.Prelude.{◌≡◌, Ok, IsOk};
 ghost use Rattle.demangle_v0_parser.specs.Productions.{impl_items, self_type_continuation, impl_path_continuation};
-ghost use Rattle.demangle_v0_parser.specs.Parsers.{CanAdvance, Advanced, AdvancedRest, AdvancedWithoutOutput, Paced};
+ghost use Rattle.demangle_v0_parser.specs.Parsers.{CanAdvance, Advanced, AdvancedRest, AdvancedWithoutOutput};
 
 use crate::parse::Parser;
 use crate::{Continuation, StepError};
@@ -14,8 +12,7 @@ impl Parser<'_, '_> {
     #[inline(always)]
     pub(super) fn impl_disambiguator(&mut self, is_trait: bool) -> Result<Continuation, StepError>
         requires can_step { CanAdvance Continuation.Path self.old }
-        ensures performs { AdvancedRest (impl_items is_trait) 6 1 2 self.old result self.new }
-        ensures paced { IsOk result → Paced 20 self.old self.new }
+        ensures { AdvancedRest (impl_items is_trait) 6 1 2 self.old result self.new }
     {
         let Some(at) = self.state.place else {
             return Err(StepError::Abort(FixedText::AfterError));
@@ -35,8 +32,7 @@ impl Parser<'_, '_> {
     #[inline(always)]
     pub(super) fn read_impl_path(&mut self, is_trait: bool) -> Continuation
         requires can_step { CanAdvance Continuation.Path self.old }
-        ensures performs { AdvancedWithoutOutput (impl_path_continuation is_trait) self.old (Ok result) self.new }
-        ensures paced { Paced 20 self.old self.new }
+        ensures { AdvancedWithoutOutput (impl_path_continuation is_trait) self.old (Ok result) self.new }
     {
         let next = if is_trait {
             Continuation::TraitSelfType
@@ -52,8 +48,7 @@ impl Parser<'_, '_> {
     #[inline(always)]
     pub(super) fn self_type(&mut self, is_trait: bool) -> Continuation
         requires can_step { CanAdvance Continuation.Path self.old }
-        ensures performs { Advanced (self_type_continuation is_trait) self.old (Ok result) self.new }
-        ensures paced { Paced 20 self.old self.new }
+        ensures { Advanced (self_type_continuation is_trait) self.old (Ok result) self.new }
     {
         self.put(FixedText::Less);
         if is_trait {
@@ -68,8 +63,7 @@ impl Parser<'_, '_> {
     #[inline(always)]
     pub(super) fn as_trait(&mut self) -> Continuation
         requires can_step { CanAdvance Continuation.AsTrait self.old }
-        ensures performs { Advanced Continuation.AsTrait self.old (Ok result) self.new }
-        ensures paced { Paced 20 self.old self.new }
+        ensures { Advanced Continuation.AsTrait self.old (Ok result) self.new }
     {
         self.push(Continuation::CloseAngle);
         self.put(FixedText::AsTrait);

@@ -1,9 +1,7 @@
 //! Lists: where they end, and what separates their elements.
-#![tactic(auto, using(crate::proofs::Pace::place_left))]
-
 ghost use Rattle.std.specs.Prelude.{◌≡◌, Some, None, IfSome, IfNone, true, false, if◌then◌else◌};
 ghost use Rattle.demangle_symbol.specs.Digits.{is_byte};
-ghost use Rattle.demangle_v0_parser.specs.Parsers.{moved, Paced};
+ghost use Rattle.demangle_v0_parser.specs.Parsers.{moved};
 ghost use Rattle.demangle_v0_parser.specs.Steps.{LooksWithin};
 ghost use Rattle.demangle_v0_parser.specs.Continuations.{after_list, is_list_end, list_costs};
 
@@ -32,7 +30,6 @@ impl Parser<'_, '_> {
         ensures place { self.new ≡ moved self.old (after_list self.old.source.symbol.now
             self.old.state.place) self.new.looks }
         ensures within_budget { LooksWithin self.old.looks (list_costs self.old.state.place) self.new.looks }
-        ensures paced { Paced 4 self.old self.new }
     {
         let at = self.state.place?;
         if !self.source.symbol.is_at(b'E', at, &mut self.looks) {
@@ -49,7 +46,6 @@ impl Parser<'_, '_> {
         ensures place { self.new ≡ moved self.old (after_list self.old.source.symbol.now
             self.old.state.place) self.new.looks }
         ensures within_budget { LooksWithin self.old.looks (list_costs self.old.state.place) self.new.looks }
-        ensures paced { Paced 4 self.old self.new }
     {
         self.element_place().is_none()
     }

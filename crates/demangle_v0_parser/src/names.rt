@@ -2,7 +2,7 @@
 #![tactic(auto, using(crate::proofs::Pace::place_left))]
 
 ghost use Rattle.std.specs.Prelude.{◌≡◌, ℕ, ◌+◌, ◌-◌, ◌*◌, ◌≤◌, length, true, None, Some, IfNone, IfOk, IfSome, IsAscii, IsOk, MatchOption, OnOk};
-ghost use Rattle.demangle_v0_parser.specs.Parsers.{KeepsFuel, Performed, PerformedRest, Placed, CanPrint, Paced, ReadsOn, LooksAt, looked};
+ghost use Rattle.demangle_v0_parser.specs.Parsers.{Performed, PerformedRest, Placed, CanPrint, ReadsOn, LooksAt, looked};
 ghost use Rattle.demangle_v0_parser.specs.Productions.{crate_path};
 ghost use Rattle.demangle_v0_grammar.specs.LookTotals.{total};
 ghost use Rattle.demangle_v0_tokens.specs.Tokens.{named_group, texts_of};
@@ -88,7 +88,6 @@ impl Parser<'_, '_> {
             output.old result self.new output.new }
         ensures ends { IfOk result (λ next. next ≡ Continuation.End) }
         ensures placed { Placed self.old self.new }
-        ensures fuel { KeepsFuel self.old self.new }
         ensures reads { IsOk result → ReadsOn 5 self.old self.new }
         ensures most { LooksAt 5 self.old self.new }
     {
@@ -99,7 +98,7 @@ impl Parser<'_, '_> {
         let (name, number, next) = named.ok_or(StepError::Abort(FixedText::Invalid))?;
         self.state.place = Some(next);
         self.state.is_bracket_open = false;
-        self.fuel.use_up_if(is_encoded(&name));
+        self.fuel.pay_text(is_encoded(&name));
         self.emit(&Token::CrateName(name, number), output)?;
         Ok(Continuation::End)
     }
@@ -126,7 +125,6 @@ impl Parser<'_, '_> {
         ensures performs { Performed V.Output Continuation.NestedName self.old output.old result self.new output.new }
         ensures ends { IfOk result (λ next. next ≡ Continuation.End) }
         ensures placed { Placed self.old self.new }
-        ensures fuel { KeepsFuel self.old self.new }
         ensures reads { IsOk result → ReadsOn 5 self.old self.new }
         ensures most { LooksAt 5 self.old self.new }
     {
@@ -145,7 +143,6 @@ impl Parser<'_, '_> {
         ensures performs { Performed V.Output Continuation.NestedName self.old output.old result self.new output.new }
         ensures ends { IfOk result (λ next. next ≡ Continuation.End) }
         ensures placed { Placed self.old self.new }
-        ensures fuel { KeepsFuel self.old self.new }
         ensures reads { IsOk result → ReadsOn 5 self.old self.new }
         ensures most { LooksAt 5 self.old self.new }
     {
@@ -157,7 +154,7 @@ impl Parser<'_, '_> {
         let (ident, number, next) = named.ok_or(StepError::Abort(FixedText::Invalid))?;
         self.state.place = Some(next);
         self.state.is_bracket_open = false;
-        self.fuel.use_up_if(is_encoded(&ident));
+        self.fuel.pay_text(is_encoded(&ident));
         let name = Token::NestedName(self.state.letter, number, ident);
         self.emit(&name, output)?;
         Ok(Continuation::End)

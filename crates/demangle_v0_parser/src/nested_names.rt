@@ -1,7 +1,7 @@
 //! Paths that are nested in one another. Their names are read and printed in a loop of their own,
 //! without frames and without a step for each.
 ghost use Rattle.std.specs.Prelude.{◌≡◌, ◌+◌, ◌*◌, ◌<◌, ◌≤◌, ◌^◌, ◌++◌, length, None, true, IfOk, IsAscii, IsErr, IsOk};
-ghost use Rattle.demangle_v0_parser.specs.Parsers.{CanPrint, KeepsFuel, NamesEnd, NamesFollow, ReadsOn, LooksAt, Same, restacked};
+ghost use Rattle.demangle_v0_parser.specs.Parsers.{CanPrint, NamesEnd, NamesFollow, ReadsOn, LooksAt, Same, restacked};
 ghost use Rattle.demangle_v0_parser.specs.StepRuns.{name_frames};
 
 use crate::frames::Frame;
@@ -66,7 +66,6 @@ impl Parser<'_, '_> {
         ensures end { NamesEnd V.Output count outer self.old output.old result self.new output.new }
         ensures same { Same self.old self.new }
         ensures grows { self.old.looks ≤ self.new.looks }
-        ensures fuel { KeepsFuel self.old self.new }
         ensures reads { IsOk result → ReadsOn (5 * count) self.old self.new }
         ensures most { LooksAt (5 * count) self.old self.new }
     {
@@ -104,7 +103,6 @@ impl Parser<'_, '_> {
             self.new output.new }
         ensures same { Same self.old self.new }
         ensures grows { self.old.looks ≤ self.new.looks }
-        ensures fuel { KeepsFuel self.old self.new }
         ensures reads { IsOk result → ReadsOn (5 * count) self.old self.new }
         ensures most { IsOk performed → LooksAt (5 * count) self.old self.new }
         ensures stopped { IsErr performed → self.new.looks ≤ self.old.looks }

@@ -1,9 +1,7 @@
 //! Continuations that few symbols have. Each is a call, so that the loops stay small: with the
 //! continuations themselves in place of `OutOfLine`, a v0 line takes 0.1 % more instructions.
-#![tactic(auto, using(crate::proofs::Pace::place_left))]
-
 ghost use Rattle.std.specs.Prelude.{IsOk};
-ghost use Rattle.demangle_v0_parser.specs.Parsers.{Performed, CanPerform, Paced};
+ghost use Rattle.demangle_v0_parser.specs.Parsers.{Performed, CanPerform};
 ghost use Rattle.demangle_v0_parser.specs.Productions.{out_of_line_continuation};
 
 use crate::parse::Parser;
@@ -35,9 +33,8 @@ impl Parser<'_, '_> {
         output: &mut V,
     ) -> Result<Continuation, StepError>
         requires can_step { CanPerform V.Output (out_of_line_continuation continuation) self.old output.old }
-        ensures performs { Performed V.Output (out_of_line_continuation continuation) self.old output.old result
+        ensures { Performed V.Output (out_of_line_continuation continuation) self.old output.old result
             self.new output.new }
-        ensures paced { IsOk result → Paced 20 self.old self.new }
     {
         match continuation {
             OutOfLine::Lifetime => self.end_with_token(TokenKind::LifetimeIndex, output),
@@ -61,9 +58,8 @@ impl Parser<'_, '_> {
         output: &mut V,
     ) -> Result<Continuation, StepError>
         requires can_step { CanPerform V.Output (out_of_line_continuation continuation) self.old output.old }
-        ensures performs { Performed V.Output (out_of_line_continuation continuation) self.old output.old result
+        ensures { Performed V.Output (out_of_line_continuation continuation) self.old output.old result
             self.new output.new }
-        ensures paced { IsOk result → Paced 20 self.old self.new }
     {
         // A copy: the results of other continuations need not be where this call writes its own.
         let next = self.call_out_of_line(continuation, output)?;

@@ -38,7 +38,7 @@ pub struct Parser<'m, 'f> {
     pub source: Source<'m>,
     pub state: State,
     pub stack: FrameStack<'f>,
-    /// The budget for accepting a symbol. No other parse has fuel.
+    /// The fuel of a print that may be in vain. No other parse stops.
     pub fuel: Fuel,
     pub looks: Looks,
     pub continuation: Continuation,

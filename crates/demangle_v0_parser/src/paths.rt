@@ -1,8 +1,6 @@
 //! Continuations of paths.
-#![tactic(auto, using(crate::proofs::Pace::place_left))]
-
 ghost use Rattle.std.specs.Prelude.{◌≡◌, ◌+◌, ◌≤◌, IsOk, Ok};
-ghost use Rattle.demangle_v0_parser.specs.Parsers.{PerformedLast, PerformedRest, CanPerform, CanAdvance, AdvancedRest, Paced, Same};
+ghost use Rattle.demangle_v0_parser.specs.Parsers.{PerformedLast, PerformedRest, CanPerform, CanAdvance, AdvancedRest, Same};
 ghost use Rattle.demangle_v0_parser.specs.Steps.{step_looks_bound};
 ghost use Rattle.demangle_v0_parser.specs.Loops.{first_looks};
 ghost use Rattle.demangle_v0_grammar.specs.Table.{path};
@@ -19,9 +17,8 @@ impl Parser<'_, '_> {
     #[inline(always)]
     fn generic_path(&mut self) -> Continuation
         requires can_step { CanAdvance Continuation.Generic self.old }
-        ensures performs { AdvancedRest (path_of self.old.state.in_value PathKind.Generic) 6 8 9 self.old (Ok
+        ensures { AdvancedRest (path_of self.old.state.in_value PathKind.Generic) 6 8 9 self.old (Ok
             result) self.new }
-        ensures paced { Paced 20 self.old self.new }
     {
         self.push(Continuation::Generic);
         Continuation::Path
@@ -33,9 +30,8 @@ impl Parser<'_, '_> {
     fn tagged_path<V: Output>(&mut self, tag: u8, output: &mut V) -> Result<Continuation, StepError>
         requires can_step { CanPerform V.Output Continuation.Path self.old output.old }
         requires not_nested { tag ≡ 78 → ⊥ }
-        ensures performs { PerformedRest V.Output (path self.old.state.in_value tag) 6 8 9 self.old output.old
+        ensures { PerformedRest V.Output (path self.old.state.in_value tag) 6 8 9 self.old output.old
             result self.new output.new }
-        ensures paced { IsOk result → Paced 20 self.old self.new }
     {
         let kind = path_kind(tag).ok_or(StepError::Abort(FixedText::Invalid))?;
         match kind {
@@ -69,7 +65,6 @@ impl Parser<'_, '_> {
         ensures least { self.old.looks + first_looks Continuation.Path self.old.state ≤ self.new.looks }
         ensures own_looks { self.new.looks ≤ self.old.looks + step_looks_bound self.old.source.symbol.now
             self.old.state.place }
-        ensures paced { IsOk result → Paced 20 self.old self.new }
     {
         let mut at = self.state.place_or_abort()?;
         let outer = self.state.depth_left;

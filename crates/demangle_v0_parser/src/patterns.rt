@@ -1,8 +1,6 @@
 //! Continuations of patterns.
-#![tactic(auto, using(crate::proofs::Pace::place_left))]
-
 ghost use Rattle.std.specs.Prelude.{◌==◌, ◌+◌, IsOk};
-ghost use Rattle.demangle_v0_parser.specs.Parsers.{CanAdvance, Advanced, Paced};
+ghost use Rattle.demangle_v0_parser.specs.Parsers.{CanAdvance, Advanced};
 
 use crate::parse::Parser;
 use crate::{Continuation, StepError};
@@ -16,8 +14,7 @@ impl Parser<'_, '_> {
     #[inline(always)]
     pub(super) fn pattern(&mut self) -> Result<Continuation, StepError>
         requires can_step { CanAdvance Continuation.Pattern self.old }
-        ensures performs { Advanced Continuation.Pattern self.old result self.new }
-        ensures paced { IsOk result → Paced 20 self.old self.new }
+        ensures { Advanced Continuation.Pattern self.old result self.new }
     {
         let at = self.state.place_or_abort()?;
         let (tag, next) = self.source.symbol.tag(at, &mut self.looks)?;
@@ -45,8 +42,7 @@ impl Parser<'_, '_> {
     #[inline(always)]
     pub(super) fn next_pattern(&mut self) -> Result<Continuation, StepError>
         requires can_step { CanAdvance Continuation.NextPattern self.old }
-        ensures performs { Advanced Continuation.NextPattern self.old result self.new }
-        ensures paced { IsOk result → Paced 20 self.old self.new }
+        ensures { Advanced Continuation.NextPattern self.old result self.new }
     {
         let at = self
             .state

@@ -1,8 +1,6 @@
 //! Continuations of reference types.
-#![tactic(auto, using(crate::proofs::Pace::place_left))]
-
 ghost use Rattle.std.specs.Prelude.{◌≡◌, Ok, IsOk};
-ghost use Rattle.demangle_v0_parser.specs.Parsers.{Performed, CanPerform, AdvancedRest, Paced};
+ghost use Rattle.demangle_v0_parser.specs.Parsers.{Performed, CanPerform, AdvancedRest};
 ghost use Rattle.demangle_v0_parser.specs.Measure.{Fits};
 ghost use Rattle.demangle_v0_parser.specs.Continuations.{after_reference_lifetime, lifetime_continuation, spaced_lifetime};
 ghost use Rattle.demangle_v0_tokens.specs.Tokens.{print_looks};
@@ -48,8 +46,7 @@ impl Parser<'_, '_> {
     #[inline(always)]
     pub(super) fn reference_type(&mut self, is_mut: bool) -> Continuation
         requires fits { Fits Continuation.«Type» self.old.state.depth_left self.old.state.lifetimes }
-        ensures performs { AdvancedRest (reference_to is_mut) 5 50 9 self.old (Ok result) self.new }
-        ensures paced { Paced 20 self.old self.new }
+        ensures { AdvancedRest (reference_to is_mut) 5 50 9 self.old (Ok result) self.new }
     {
         self.put(FixedText::Ampersand);
         let Some(at) = self.state.place else {
@@ -77,9 +74,8 @@ impl Parser<'_, '_> {
         output: &mut V,
     ) -> Result<Continuation, StepError>
         requires can_step { CanPerform V.Output Continuation.«Type» self.old output.old }
-        ensures performs { Performed V.Output (lifetime_continuation is_mut) self.old output.old result self.new
+        ensures { Performed V.Output (lifetime_continuation is_mut) self.old output.old result self.new
             output.new }
-        ensures paced { IsOk result → Paced 20 self.old self.new }
     {
         let at = self.state.place_or_abort()?;
         let (index, next) = self.source.symbol.integer_62(at, &mut self.looks)?;

@@ -1,8 +1,6 @@
 //! Steps: each runs a continuation, prints the fixed text that it queued, and returns what is next.
-#![tactic(auto, using(crate::proofs::Pace::place_left))]
-
 ghost use Rattle.std.specs.Prelude.{◌≡◌, ◌+◌, ◌≤◌, true, false, IfSome, IfNone, IsOk, OnOk, length, IsAscii};
-ghost use Rattle.demangle_v0_parser.specs.Parsers.{CanPerform, Same, env_of, restated, machine_of, Paced};
+ghost use Rattle.demangle_v0_parser.specs.Parsers.{CanPerform, Same, env_of, restated, machine_of};
 ghost use Rattle.demangle_v0_parser.specs.Steps.{looks_bound, resumed_of};
 ghost use Rattle.demangle_v0_parser.specs.Loops.{FlushesText, ResumesAt, first_looks, without_pending_text};
 ghost use Rattle.demangle_v0_parser.specs.Skips.{is_skipped};
@@ -78,7 +76,6 @@ impl Parser<'_, '_> {
         ensures own_looks { self.new.looks ≤ self.old.looks + looks_bound 20 self.old.source.symbol.now
             self.old.state.place }
         ensures least { self.old.looks + first_looks continuation self.old.state ≤ self.new.looks }
-        ensures paced { IsOk result → Paced 20 self.old self.new }
     {
         match self.dispatch(continuation, output) {
             Ok(next) => {
@@ -107,7 +104,6 @@ impl Parser<'_, '_> {
             × (length self.old.stack.frames ≤ base) × (self.new ≡ self.old)) }
         ensures same { Same self.old self.new }
         ensures looks { self.new.looks ≡ self.old.looks }
-        ensures fuel { self.new.fuel ≡ self.old.fuel }
     {
         match continuation {
             Continuation::End => {

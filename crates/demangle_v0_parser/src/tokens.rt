@@ -1,10 +1,8 @@
 //! Reads tokens and prints them.
-#![tactic(auto, using(crate::proofs::Pace::place_left))]
-
 ghost use Rattle.std.specs.Prelude.{◌≡◌, ◌+◌, ◌≤◌, true, false, IsOk, OnOk};
 ghost use Rattle.demangle_v0_grammar.specs.Items.{done};
 ghost use Rattle.demangle_v0_grammar.specs.LookTotals.{total};
-ghost use Rattle.demangle_v0_parser.specs.Parsers.{PerformedRest, CanPrint, looked, token_group, Paced};
+ghost use Rattle.demangle_v0_parser.specs.Parsers.{PerformedRest, CanPrint, looked, token_group};
 ghost use Rattle.demangle_v0_parser.specs.Steps.{looks_bound};
 ghost use Rattle.demangle_v0_tokens.specs.Tokens.{IsTokenWithin};
 ghost use Rattle.demangle_v0_tokens.specs.Texts.{token_items};
@@ -73,7 +71,6 @@ impl Parser<'_, '_> {
             output.old result self.new output.new }
         ensures own_looks { self.new.looks ≤ self.old.looks + looks_bound 8 self.old.source.symbol.now
             self.old.state.place }
-        ensures paced { IsOk result → Paced 8 self.old self.new }
     {
         match self.token_at(token_kind, output) {
             TokenOutcome::Parsed(token, next) => {

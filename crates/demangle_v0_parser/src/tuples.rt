@@ -1,8 +1,6 @@
 //! Continuations of tuple types.
-#![tactic(auto, using(crate::proofs::Pace::place_left))]
-
 ghost use Rattle.std.specs.Prelude.{Ok};
-ghost use Rattle.demangle_v0_parser.specs.Parsers.{CanAdvance, Advanced, AdvancedRest, Paced};
+ghost use Rattle.demangle_v0_parser.specs.Parsers.{CanAdvance, Advanced, AdvancedRest};
 ghost use Rattle.demangle_v0_tokens.specs.Tags.{constructed_of};
 ghost use Rattle.demangle_v0_tokens.specs.declared.tags.ConstructedType.TheVariants as ConstructedType;
 
@@ -15,9 +13,8 @@ impl Parser<'_, '_> {
     #[inline(always)]
     pub(super) fn tuple_type(&mut self) -> Continuation
         requires can_step { CanAdvance Continuation.DynBinder self.old }
-        ensures performs { AdvancedRest (constructed_of ConstructedType.Tuple) 5 50 9 self.old (Ok result)
+        ensures { AdvancedRest (constructed_of ConstructedType.Tuple) 5 50 9 self.old (Ok result)
             self.new }
-        ensures paced { Paced 20 self.old self.new }
     {
         self.put(FixedText::OpenParen);
         Continuation::FirstTupleType
@@ -27,8 +24,7 @@ impl Parser<'_, '_> {
     #[inline(always)]
     pub(super) fn first_tuple_type(&mut self) -> Continuation
         requires can_step { CanAdvance Continuation.FirstTupleType self.old }
-        ensures performs { Advanced Continuation.FirstTupleType self.old (Ok result) self.new }
-        ensures paced { Paced 20 self.old self.new }
+        ensures { Advanced Continuation.FirstTupleType self.old (Ok result) self.new }
     {
         if self.ends_list() {
             return self.end_with(FixedText::CloseParen);
@@ -41,8 +37,7 @@ impl Parser<'_, '_> {
     #[inline(always)]
     pub(super) fn second_tuple_type(&mut self) -> Continuation
         requires can_step { CanAdvance Continuation.SecondTupleType self.old }
-        ensures performs { Advanced Continuation.SecondTupleType self.old (Ok result) self.new }
-        ensures paced { Paced 20 self.old self.new }
+        ensures { Advanced Continuation.SecondTupleType self.old (Ok result) self.new }
     {
         if self.ends_list() {
             // `(T,)` is a tuple. `(T)` would be the type `T` in parentheses.
@@ -58,8 +53,7 @@ impl Parser<'_, '_> {
     #[inline(always)]
     pub(super) fn next_tuple_type(&mut self) -> Continuation
         requires can_step { CanAdvance Continuation.NextTupleType self.old }
-        ensures performs { Advanced Continuation.NextTupleType self.old (Ok result) self.new }
-        ensures paced { Paced 20 self.old self.new }
+        ensures { Advanced Continuation.NextTupleType self.old (Ok result) self.new }
     {
         if self.ends_list() {
             return self.end_with(FixedText::CloseParen);

@@ -1,8 +1,6 @@
 //! Continuations of types.
-#![tactic(auto, using(crate::proofs::Pace::place_left))]
-
 ghost use Rattle.std.specs.Prelude.{if◌then◌else◌, ◌≡◌, ◌<◌, Ok, length, true, false, ◌^◌, ◌++◌, ◌∷◌, [], IsOk};
-ghost use Rattle.demangle_v0_parser.specs.Parsers.{Performed, PerformedRest, CanPerform, restacked, Paced};
+ghost use Rattle.demangle_v0_parser.specs.Parsers.{Performed, PerformedRest, CanPerform, restacked};
 ghost use Rattle.demangle_v0_parser.specs.Traces.{frame_at};
 ghost use Rattle.demangle_v0_tokens.specs.Tags.{constructed_of, type_of};
 
@@ -36,10 +34,9 @@ impl Parser<'_, '_> {
         output: &mut V,
     ) -> Result<Continuation, StepError>
         requires can_step { CanPerform V.Output Continuation.«Type» self.old output.old }
-        ensures performs { Performed V.Output
+        ensures { Performed V.Output
             (if may_have_splat then Continuation.«Type» else Continuation.TaggedType)
             self.old output.old result self.new output.new }
-        ensures paced { IsOk result → Paced 20 self.old self.new }
     {
         let Some(at) = self.state.place else {
             return Err(StepError::Abort(FixedText::AfterError));
@@ -86,9 +83,8 @@ impl Parser<'_, '_> {
         output: &mut V,
     ) -> Result<Continuation, StepError>
         requires can_step { CanPerform V.Output Continuation.DynBinder self.old output.old }
-        ensures performs { PerformedRest V.Output (type_of kind) 5 50 9 self.old output.old result self.new
+        ensures { PerformedRest V.Output (type_of kind) 5 50 9 self.old output.old result self.new
             output.new }
-        ensures paced { IsOk result → Paced 20 self.old self.new }
     {
         match kind {
             TypeKind::SharedReference => Ok(self.reference_type(false)),
@@ -111,9 +107,8 @@ impl Parser<'_, '_> {
         output: &mut V,
     ) -> Result<Continuation, StepError>
         requires can_step { CanPerform V.Output Continuation.DynBinder self.old output.old }
-        ensures performs { PerformedRest V.Output (constructed_of kind) 5 50 9 self.old output.old result
+        ensures { PerformedRest V.Output (constructed_of kind) 5 50 9 self.old output.old result
             self.new output.new }
-        ensures paced { IsOk result → Paced 20 self.old self.new }
     {
         match kind {
             ConstructedType::ConstPointer => {
@@ -164,9 +159,8 @@ impl Parser<'_, '_> {
     #[inline(always)]
     pub(super) fn array_length<V: Output>(&mut self, output: &mut V) -> Continuation
         requires can_step { CanPerform V.Output Continuation.ArrayLength self.old output.old }
-        ensures performs { Performed V.Output Continuation.ArrayLength self.old output.old (Ok result) self.new
+        ensures { Performed V.Output Continuation.ArrayLength self.old output.old (Ok result) self.new
             output.new }
-        ensures paced { Paced 20 self.old self.new }
     {
         self.push_if_printing(Continuation::CloseBracket, output);
         self.put(FixedText::Semicolon);

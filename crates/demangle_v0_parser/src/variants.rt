@@ -1,8 +1,6 @@
 //! Continuations of variants and of their fields.
-#![tactic(auto, using(crate::proofs::Pace::place_left))]
-
 ghost use Rattle.std.specs.Prelude.{◌≡◌, None, Ok, Some, IsOk};
-ghost use Rattle.demangle_v0_parser.specs.Parsers.{Performed, CanPerform, CanAdvance, Advanced, AdvancedRest, braced, Paced};
+ghost use Rattle.demangle_v0_parser.specs.Parsers.{Performed, CanPerform, CanAdvance, Advanced, AdvancedRest, braced};
 ghost use Rattle.demangle_v0_tokens.specs.Tags.{variant_of};
 
 use crate::names::has_encoded_name;
@@ -19,9 +17,8 @@ impl Parser<'_, '_> {
     #[inline(always)]
     fn unit_variant(&mut self) -> Continuation
         requires no_pending_text { self.old.state.pending_text ≡ None }
-        ensures performs { AdvancedRest (variant_of self.old.state.in_value VariantKind.Unit) 3 5 3 self.old
+        ensures { AdvancedRest (variant_of self.old.state.in_value VariantKind.Unit) 3 5 3 self.old
             (Ok result) self.new }
-        ensures paced { Paced 20 self.old self.new }
     {
         self.state.is_bracket_open = false;
         if self.state.in_value {
@@ -51,8 +48,7 @@ impl Parser<'_, '_> {
     #[inline(never)]
     pub(super) fn variant(&mut self) -> Result<Continuation, StepError>
         requires can_step { CanAdvance Continuation.Variant self.old }
-        ensures performs { Advanced Continuation.Variant self.old result self.new }
-        ensures paced { IsOk result → Paced 20 self.old self.new }
+        ensures { Advanced Continuation.Variant self.old result self.new }
     {
         let at = self.state.place_or_abort()?;
         let (tag, next) = self.source.symbol.tag(at, &mut self.looks)?;
@@ -74,13 +70,12 @@ impl Parser<'_, '_> {
     #[inline(never)]
     pub(super) fn field<V: Output>(&mut self, output: &mut V) -> Result<Continuation, StepError>
         requires can_step { CanPerform V.Output Continuation.Field self.old output.old }
-        ensures performs { Performed V.Output Continuation.Field self.old output.old result self.new output.new }
-        ensures paced { IsOk result → Paced 20 self.old self.new }
+        ensures { Performed V.Output Continuation.Field self.old output.old result self.new output.new }
     {
         match self.token_at(TokenKind::FieldName, output) {
             TokenOutcome::Parsed(token, next) => {
                 self.state.place = next;
-                self.fuel.use_up_if(has_encoded_name(&token));
+                self.fuel.pay_text(has_encoded_name(&token));
                 self.emit(&token, output)?;
                 Ok(Continuation::FieldColon)
             }

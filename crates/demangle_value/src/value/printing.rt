@@ -1,10 +1,9 @@
 //! Prints symbols into sinks, cut at a limit.
-ghost use Rattle.std.specs.Prelude.{◌≡◌, ◌+◌, ◌-◌, ◌*◌, ◌≤◌, ◌⊎◌, length, true, false, IfSome};
+ghost use Rattle.std.specs.Prelude.{◌≡◌, ℕ, ◌+◌, ◌*◌, ◌≤◌, ◌⊎◌, length, true, false, IfSome, Some};
 ghost use Rattle.std.specs.List.{list_all};
 ghost use Rattle.demangle_sink.specs.Cut.{cut};
 ghost use Rattle.demangle_sink.specs.PutsPieces.{PutsPieces};
 ghost use Rattle.demangle_value.specs.Filtered.{is_run_byte, replacement_in};
-ghost use Rattle.demangle_value.specs.LinearPrinting.{PrintsLinear};
 ghost use Rattle.demangle_value.specs.PathEnds.{handed_with_path_len};
 ghost use Rattle.demangle_value.specs.Shape.{limited};
 ghost use Rattle.demangle_value.specs.Stripped.{stripped};
@@ -18,8 +17,8 @@ use crate::format::{Format, MAX_SIZE, TextFormat};
 use crate::strip::without_thin_lto;
 use crate::value::{Demangle, DemangleStyle, is_allowed};
 use demangle_sink::{SinkRefused, SizeLimitedFmtAdapter, TextSink, put_piece};
-use demangle_symbol::cursor::{Looks, RunLooks};
-use demangle_v0::{Extent, FirstPrint, Printed};
+use demangle_symbol::cursor::Looks;
+use demangle_v0::{FirstPrint, Printed};
 
 /// Prints a symbol without its suffix into a sink, cut at the limit. Fails if the sink fails.
 fn write_cut<S: TextSink>(
@@ -214,7 +213,7 @@ impl Demangle<'_> {
 
 /// What the path of a run may have in bytes for each byte of the run, and beyond that, before the run
 /// is known to be a symbol. Few paths have more. A short run may bring any number of lifetimes into
-/// scope, or print the target of a reference again and again.
+/// scope.
 const TIMES_RUN: usize = 4;
 
 const MORE_TEXT: usize = 64;
@@ -222,29 +221,33 @@ const MORE_TEXT: usize = 64;
 /// The most bytes of the path of any run before that.
 const MOST_TEXT: usize = 1600;
 
-/// Returns the most bytes of the path of a run that are printed before the run is known to be a symbol.
+/// How many bytes may be read again for each byte of a run, and for its end, before the run is known
+/// to be a symbol. Of 60 symbols of generic code one needs more, and none of a log.
+const FIRST_REREAD: usize = 4;
+
+/// Returns the format of a text with the limits that hold before it is known to be a symbol.
 #[inline(always)]
-fn text_limit(run: &str, format: TextFormat) -> usize
-    ensures { result ≤ format.limit }
+fn first_format(text: &str, format: TextFormat) -> TextFormat
+    ensures form { result.form ≡ format.form }
+    ensures limit { result.limit ≤ format.limit }
+    ensures reread { (most : ℕ) × (result.reread ≡ Some most) × (most ≤ 4 * (length text.now + 1)) ×
+        IfSome format.reread (λ greatest. most ≤ greatest) }
 {
-    let most = run
+    let reread = text.len().saturating_add(1).saturating_mul(FIRST_REREAD);
+    let most = match format.reread {
+        Some(greatest) => greatest.min(reread),
+        None => reread,
+    };
+    let limit = text
         .len()
         .saturating_mul(TIMES_RUN)
-        .saturating_add(MORE_TEXT);
-    format.limit.min(most.min(MOST_TEXT))
-}
-
-/// Returns how many bytes the path of a run may have beyond a limit after the run was validated. There
-/// are none if the path may be too long for a buffer, so that it is not printed in vain.
-#[inline(always)]
-fn text_withheld(format: TextFormat, limit: usize) -> usize
-    ensures most { result ≤ format.limit - limit }
-    ensures all { format.limit ≤ most_bytes → result ≡ format.limit - limit }
-{
-    if format.limit > MAX_SIZE {
-        return 0;
+        .saturating_add(MORE_TEXT)
+        .min(MOST_TEXT);
+    TextFormat {
+        limit: format.limit.min(limit),
+        reread: Some(most),
+        ..format
     }
-    format.limit.saturating_sub(limit)
 }
 
 /// Returns whether a run, or a run with the `_` before it, starts as a v0 symbol.
@@ -268,14 +271,13 @@ pub enum Tried<'a> {
 /// Prints a v0 run before it is known to be a symbol, as `demangle_v0::print_first` does, and counts
 /// its looks. A run is ASCII.
 ///
-/// Nothing is known of a path that is much longer than the run, unless the run was validated before
-/// its end was printed.
+/// Nothing is known of a path that is much longer than the run, or for which many bytes are read again.
 #[inline(never)]
 fn print_v0_first<'a, S: TextSink>(
     run: &'a str,
     out: &mut S,
     format: Format,
-    looks: &mut RunLooks,
+    looks: &mut Looks,
 ) -> Tried<'a>
     requires run { list_all is_run_byte run.now ≡ true }
     requires v0 { is_v0_run run.now ≡ true }
@@ -283,50 +285,33 @@ fn print_v0_first<'a, S: TextSink>(
     ensures took { result ≡ Tried.Printed →
         S.took out.old (replacement_in format run.now) out.new }
     ensures read { IsRunRead run.now result }
-    ensures grows { looks.old.accepting_looks ≤ looks.new.accepting_looks }
-    ensures most { looks.new.accepting_looks ≤ looks.old.accepting_looks + 143 * (length run.now + 1) }
-    ensures early { IsUnknown result → looks.new.accepting_looks
-        ≤ looks.old.accepting_looks + 88 * (length run.now + 1) }
-    ensures apart { looks.old.printing_looks ≤ looks.new.printing_looks }
-    ensures prints { PrintsLinear format 1 (length run.now) looks.old.printing_looks
-        looks.new.printing_looks }
+    ensures grows { looks.old ≤ looks.new }
+    ensures most { looks.new ≤ looks.old + 143 * (length run.now + 1) }
+    ensures early { IsUnknown result → looks.new ≤ looks.old + 88 * (length run.now + 1) }
 {
     let text = without_thin_lto(run);
     let limits = TextFormat::for_text(format, text.len());
-    let limit = text_limit(run, limits);
-    let mut limited = SizeLimitedFmtAdapter::with_reread(out, limit, limits.reread);
-    let mut first = FirstPrint {
-        form: limits.form,
-        withheld: text_withheld(limits, limit),
-        fuel: 0,
-    };
-    match demangle_v0::print_first(text, &mut limited, &mut first, looks) {
-        Printed::Symbol(symbol, suffix, extent) => {
-            let allowed = is_allowed(suffix, &mut looks.accepting_looks);
-            if allowed {
-                match extent {
-                    Extent::Whole => {
-                        if put_piece(suffix, out).is_ok() {
-                            return Tried::Printed;
-                        }
-                    }
-                    // With a greater limit, the path was not printed up to it.
-                    Extent::Cut if limits.limit <= MAX_SIZE => {
-                        let marked = put_piece("{size limit reached}", out);
-                        if marked.is_ok() && put_piece(suffix, out).is_ok() {
-                            return Tried::Printed;
-                        }
-                    }
-                    Extent::Cut | Extent::Part => {}
-                }
+    let first = first_format(text, limits);
+    let mut limited = SizeLimitedFmtAdapter::with_reread(out, first.limit, first.reread);
+    let FirstPrint { printed, fuel } = demangle_v0::print_first(
+        text,
+        &mut limited,
+        first.form,
+        looks,
+    );
+    match printed {
+        Printed::Symbol(symbol, suffix) => {
+            let allowed = is_allowed(suffix, looks);
+            if allowed && put_piece(suffix, out).is_ok() {
+                return Tried::Printed;
             }
             let style = DemangleStyle::V0(symbol);
             let read = Demangle::with_style(text, style, suffix, allowed);
-            Tried::InVain(Some(read), first.fuel)
+            Tried::InVain(Some(read), fuel)
         }
         // A run that starts as a v0 symbol has not the prefix of a legacy one.
-        Printed::NoSymbol => Tried::InVain(Some(Demangle::without_style(text)), first.fuel),
-        Printed::Unknown => Tried::InVain(None, first.fuel),
+        Printed::NoSymbol => Tried::InVain(Some(Demangle::without_style(text)), fuel),
+        Printed::Unknown => Tried::InVain(None, fuel),
     }
 }
 
@@ -368,25 +353,21 @@ pub fn print_first<'a, S: TextSink>(
     run: &'a str,
     out: &mut S,
     format: Format,
-    looks: &mut RunLooks,
+    looks: &mut Looks,
 ) -> Tried<'a>
     requires run { list_all is_run_byte run.now ≡ true }
     requires not_failed { S.failed out.old ≡ false }
     ensures took { result ≡ Tried.Printed →
         S.took out.old (replacement_in format run.now) out.new }
     ensures read { IsRunRead run.now result }
-    ensures grows { looks.old.accepting_looks ≤ looks.new.accepting_looks }
-    ensures most { looks.new.accepting_looks ≤ looks.old.accepting_looks + 143 * (length run.now + 1) }
-    ensures early { IsUnknown result → looks.new.accepting_looks
-        ≤ looks.old.accepting_looks + 88 * (length run.now + 1) }
-    ensures apart { looks.old.printing_looks ≤ looks.new.printing_looks }
-    ensures prints { PrintsLinear format 1 (length run.now) looks.old.printing_looks
-        looks.new.printing_looks }
+    ensures grows { looks.old ≤ looks.new }
+    ensures most { looks.new ≤ looks.old + 143 * (length run.now + 1) }
+    ensures early { IsUnknown result → looks.new ≤ looks.old + 88 * (length run.now + 1) }
 {
     if starts_as_v0(run.as_bytes()) {
         return print_v0_first(run, out, format, looks);
     }
-    print_legacy_first(run, out, format, &mut looks.accepting_looks)
+    print_legacy_first(run, out, format, looks)
 }
 
 /// Prints a text into a sink; its path has `path_len` bytes. Fails if the sink fails.

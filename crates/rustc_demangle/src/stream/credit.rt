@@ -1,6 +1,6 @@
 //! Whether the runs of a text are printed before they are known to be symbols.
 ghost use Rattle.std.specs.Prelude.{◌≡◌, ◌-◌, ◌≤◌, ◌↔◌, IsTrue};
-ghost use Rattle.rustc_demangle.specs.Credit.{owed_after};
+ghost use Rattle.rustc_demangle.specs.Credit.{owed_after, owed_for_symbol};
 
 use demangle_value::value::printing::starts_as_v0;
 
@@ -12,6 +12,9 @@ const TEXT_PER_SYMBOL: usize = 12;
 
 /// How much fuel that its references used up costs one symbol.
 const FUEL_PER_SYMBOL: usize = 32;
+
+/// How many symbols one costs whose print gave up. It is printed again, so less of it was in vain.
+const GIVEN_UP: usize = 16;
 
 /// How many symbols count for later runs.
 const MOST_SAVED: usize = 64;
@@ -44,8 +47,8 @@ impl Credit {
         self.owed <= MOST_SAVED
     }
 
-    /// Takes account of a run of which so many bytes were printed in vain, and whose references used up
-    /// so much fuel. Only v0 runs count, because few bytes of others are printed before it is known.
+    /// Takes account of a run that is no symbol, of which so many bytes were printed, and whose
+    /// references used up so much fuel. Only v0 runs count, because few bytes of others are printed before it is known.
     #[inline(always)]
     pub(super) fn lose(&mut self, run: &str, printed: usize, fuel: usize)
         requires { self.old.owed ≤ 64 }
@@ -54,6 +57,17 @@ impl Credit {
         if starts_as_v0(run.as_bytes()) {
             let bytes = run.len() / BYTES_PER_SYMBOL + printed / TEXT_PER_SYMBOL;
             self.owed += bytes + fuel / FUEL_PER_SYMBOL + 1;
+        }
+    }
+
+    /// Takes account of a symbol whose print gave up. Only v0 symbols count, as for `lose`.
+    #[inline(always)]
+    pub(super) fn give_up(&mut self, run: &str)
+        requires { self.old.owed ≤ 64 }
+        ensures { self.new.owed ≡ owed_for_symbol run.now self.old.owed }
+    {
+        if starts_as_v0(run.as_bytes()) {
+            self.owed += GIVEN_UP;
         }
     }
 

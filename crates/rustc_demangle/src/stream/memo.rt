@@ -139,17 +139,14 @@ fn try_print<'a>(
     run: &'a str,
     held: &mut GrowingBuffer,
     format: Format,
-    looks: &mut RunLooks,
+    looks: &mut Looks,
 ) -> Tried<'a>
     requires { list_all is_run_byte run.now ≡ true }
     ensures printed { result ≡ Tried.Printed → held.new ≡ replacement_in format run.now }
     ensures read { IsRunRead run.now result }
-    ensures grows { LooksGrow looks.old looks.new }
-    ensures most { looks.new.accepting_looks ≤ looks.old.accepting_looks + 143 * (length run.now + 1) }
-    ensures early { IsUnknown result → looks.new.accepting_looks
-        ≤ looks.old.accepting_looks + 88 * (length run.now + 1) }
-    ensures prints { PrintsLinear format 1 (length run.now) looks.old.printing_looks
-        looks.new.printing_looks }
+    ensures grows { looks.old ≤ looks.new }
+    ensures most { looks.new ≤ looks.old + 143 * (length run.now + 1) }
+    ensures early { IsUnknown result → looks.new ≤ looks.old + 88 * (length run.now + 1) }
 {
     held.clear();
     let mut sink = BufferSink::new(held);
@@ -217,18 +214,24 @@ impl Store {
             }
             return Some(symbol);
         }
-        let (read, fuel) = match try_print(run, &mut self.printed, self.format, looks) {
+        let accepting = &mut looks.accepting_looks;
+        let (read, fuel) = match try_print(run, &mut self.printed, self.format, accepting) {
             Tried::Printed => {
                 self.credit.gain();
                 return None;
             }
             Tried::InVain(read, fuel) => (read, fuel),
         };
-        self.credit.lose(run, self.printed.len(), fuel);
-        match read {
-            Some(symbol) => Some(symbol),
-            None => Some(read_run(run, &mut looks.accepting_looks)),
+        let symbol = match read {
+            Some(symbol) => symbol,
+            None => read_run(run, &mut looks.accepting_looks),
+        };
+        if has_style(&symbol) {
+            self.credit.give_up(run);
+        } else {
+            self.credit.lose(run, self.printed.len(), fuel);
         }
+        Some(symbol)
     }
 
     /// Prints a run into the buffer, as `print_or_read` does, or after that has read it. Counts its

@@ -49,8 +49,6 @@ fn ascii_inner_of(s: &str, is_ascii: bool) -> Option<&str> {
 /// # Errors
 ///
 /// Returns `Err` if the text is not a legacy symbol.
-// As a call, it leaves the caller that reads both schemes small enough to be inlined.
-#[inline(never)]
 pub fn demangle(s: &str, is_ascii: bool) -> Result<(Demangle<'_>, &str), ()> {
     // A length counts bytes. In other text, an element could end within a character.
     let Some(inner) = ascii_inner_of(s, is_ascii) else {

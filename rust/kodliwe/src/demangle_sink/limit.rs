@@ -147,15 +147,6 @@ impl<'s, S: TextSink> SizeLimitedFmtAdapter<'s, S> {
         }
     }
 
-    /// Allows so many more bytes to be passed to the sink. In all, at most `usize::MAX` are left.
-    /// Returns whether no fewer were allowed.
-    #[cfg(feature = "stream")]
-    pub fn allow_more(&mut self, bytes: usize) -> bool {
-        let before = self.remaining;
-        self.remaining = before.saturating_add(bytes);
-        self.remaining - before == bytes
-    }
-
     /// Counts the bytes that a reference may make the parser read again, and one more.
     ///
     /// # Errors

@@ -182,7 +182,6 @@ fn put_target_again<S: TextSink>(
     if !held.is_of(parser.continuation, &parser.state) || !out.put_again(held.text) {
         return false;
     }
-    parser.fuel.pay_copy();
     parser.state.place = Some(held.end);
     parser.state.is_bracket_open = false;
     true

@@ -9,7 +9,7 @@ use crate::demangle_symbol::form::Form;
 #[cfg(feature = "stream")]
 use crate::demangle_v0::stacks::SHORT_STACK;
 #[cfg(feature = "stream")]
-use crate::demangle_v0::validation::print_or_validate;
+use crate::demangle_v0::validation::print_to_suffix;
 use crate::demangle_v0::validation::{begins_path, suffix_at};
 #[cfg(feature = "stream")]
 use crate::demangle_v0_parser::frames::UNUSED_FRAME;
@@ -84,75 +84,75 @@ pub fn demangle(s: &str, is_ascii: bool) -> Result<(Demangle<'_>, &str), ParseEr
     Ok((Demangle::new(symbol), &inner[end..]))
 }
 
-/// How much of the first path of a symbol was printed.
-#[cfg(feature = "stream")]
-#[derive(Clone, Copy)]
-pub enum Extent {
-    /// The whole path.
-    Whole,
-    /// The path up to a limit.
-    Cut,
-    /// An unknown part of the path.
-    Part,
-}
-
 /// What is known of a text whose first path was printed before it was known to be a symbol.
 #[cfg(feature = "stream")]
 #[derive(Clone, Copy)]
 pub enum Printed<'s> {
-    /// The text is this symbol with this suffix, and so much of its first path was printed.
-    Symbol(Demangle<'s>, &'s str, Extent),
-    /// The text is not a symbol. A part of a path may be printed.
+    /// The text is this symbol with this suffix, and its first path was printed.
+    Symbol(Demangle<'s>, &'s str),
+    /// The text is not a symbol. A path may be printed.
     NoSymbol,
-    /// The limit or the sink rejected a piece, or the limit a reference, before it was known whether
-    /// the text is a symbol.
+    /// The first path was not printed to its end, so nothing is known of the text.
     Unknown,
 }
 
-/// How a path is printed before it is known whether the text is a symbol.
+/// A print of a path before the text was known to be a symbol.
 #[cfg(feature = "stream")]
 #[derive(Clone, Copy)]
-pub struct FirstPrint {
-    pub form: Form,
-    /// How many more bytes may be passed to the sink after the text was validated.
-    pub withheld: usize,
+pub struct FirstPrint<'s> {
+    pub printed: Printed<'s>,
     /// How much fuel the references of the path used up.
     pub fuel: usize,
 }
 
-/// Prints the first path of a v0 symbol before the text is known to be one: with hashes or without
-/// them, and with its generic arguments or with `_` for them. Returns what is known of the text
-/// then, which must be ASCII, and sets the fuel of `first`.
+/// Prints the first path of a v0 symbol before the text is known to be one: in a form with hashes
+/// or without them, and with its generic arguments or with `_` for them. Returns what is known of
+/// the text then, which must be ASCII.
 ///
-/// The path is printed until its fuel is used up. If it has few references, the text is read once.
-/// Otherwise, and after an error, the text is validated before the rest of the path is printed, and
-/// more bytes may be passed to the sink then. A path that is nested deeply may be printed in part.
+/// If the path has few references, the text is read once. Otherwise the print gives up when its
+/// fuel is used up, or at the first reference for which more bytes may be read again than the
+/// adapter allows.
 #[cfg(feature = "stream")]
 pub fn print_first<'s, S: TextSink>(
     s: &'s str,
     out: &mut SizeLimitedFmtAdapter<'_, S>,
-    first: &mut FirstPrint,
-) -> Printed<'s> {
+    form: Form,
+) -> FirstPrint<'s> {
     let Some(inner) = ascii_inner_of(s, true) else {
-        return Printed::NoSymbol;
+        return FirstPrint {
+            printed: Printed::NoSymbol,
+            fuel: 0,
+        };
     };
     let symbol = Symbol::new(inner);
     if !begins_path(&symbol, 0) {
-        return Printed::NoSymbol;
+        return FirstPrint {
+            printed: Printed::NoSymbol,
+            fuel: 0,
+        };
     }
     let source = Source {
         symbol: &symbol,
-        form: first.form,
+        form,
     };
     let mut memory = [UNUSED_FRAME; SHORT_STACK];
     let mut parser = Parser::at_path(source, 0, &mut memory);
-    parser.fuel = Fuel::for_run(symbol.len());
-    let path = print_or_validate(&mut parser, out, first.withheld);
+    parser.fuel = Fuel::for_first_print();
+    let end = print_to_suffix(&mut parser, out);
 
-    first.fuel = parser.fuel.used_within();
-    match path {
-        Ok(Some(path)) => Printed::Symbol(Demangle::new(symbol), &inner[path.end..], path.extent),
-        Ok(None) => Printed::NoSymbol,
-        Err(SinkRefused) => Printed::Unknown,
+    let fuel = parser.fuel.used;
+    match end {
+        Ok(Some(end)) => {
+            let printed = Printed::Symbol(Demangle::new(symbol), &inner[end..]);
+            FirstPrint { printed, fuel }
+        }
+        Ok(None) => {
+            let printed = Printed::NoSymbol;
+            FirstPrint { printed, fuel }
+        }
+        Err(SinkRefused) => {
+            let printed = Printed::Unknown;
+            FirstPrint { printed, fuel }
+        }
     }
 }

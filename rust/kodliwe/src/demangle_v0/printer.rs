@@ -2,26 +2,21 @@
 //! Prints the first path of a v0 symbol. Each step prints what it reads as soon as it is known.
 
 use crate::demangle_sink::{SinkRefused, SizeLimitedFmtAdapter, TextSink};
-#[cfg(feature = "stream")]
-use crate::demangle_v0::Extent;
 use crate::demangle_v0::held_texts::{
     MOST_TEXTS, PrintScope, StoredText, UNUSED_TEXT, end_note, run_target, start_note,
 };
-use crate::demangle_v0::skip::{finish_skip, may_skip, skip_for_fuel};
+use crate::demangle_v0::skip::{finish_skip, skip_part};
 use crate::demangle_v0::stacks::{FULL_STACK, MIDDLE_STACK};
-
 use crate::demangle_v0_parser::Continuation;
 use crate::demangle_v0_parser::asides::is_aside;
 use crate::demangle_v0_parser::frames::UNUSED_FRAME;
-#[cfg(feature = "stream")]
-use crate::demangle_v0_parser::fuel::Fuel;
 use crate::demangle_v0_parser::parse::Parser;
 use crate::demangle_v0_parser::stops::Unfinished;
 use crate::demangle_v0_parser::targets::{is_target, unit_of};
 
-/// Prints until only the frames below the scope are left or the stack is full. A parse with a
-/// budget also stops when its fuel is used up, and one that notes at a target whose text the scope
-/// does not have. Returns what is left then.
+/// Prints until only the frames below the scope are left or the stack is full. If it `may_stop`, it
+/// also stops when the fuel is used up. One that notes stops at a target whose text the scope does
+/// not have. Returns what is left then.
 ///
 /// Fails at the first piece that the limit or the sink rejects.
 // All prints share this loop. With two, the compiler would put the continuations into neither.
@@ -29,12 +24,12 @@ use crate::demangle_v0_parser::targets::{is_target, unit_of};
 fn print_above<S: TextSink>(
     parser: &mut Parser<'_, '_>,
     out: &mut SizeLimitedFmtAdapter<'_, S>,
-    has_budget: bool,
+    may_stop: bool,
     scope: PrintScope<'_>,
 ) -> Result<Option<Unfinished>, SinkRefused> {
     let mut continuation = parser.continuation;
     while parser.stack.has_room() {
-        if !parser.fuel.pay_step(has_budget) {
+        if may_stop && parser.fuel.is_used_up() {
             parser.continuation = continuation;
             return Ok(Some(Unfinished::Printing));
         }
@@ -54,10 +49,7 @@ fn print_above<S: TextSink>(
             continuation = following;
         } else {
             parser.continuation = next;
-            if !may_skip(parser, has_budget) {
-                return Ok(Some(Unfinished::Printing));
-            }
-            if let Some(left) = skip_for_fuel(parser) {
+            if let Some(left) = skip_part(parser) {
                 return Ok(Some(left));
             }
             continuation = parser.continuation;
@@ -74,7 +66,7 @@ fn print_above<S: TextSink>(
 fn print_target<S: TextSink>(
     parser: &mut Parser<'_, '_>,
     out: &mut SizeLimitedFmtAdapter<'_, S>,
-    has_budget: bool,
+    may_stop: bool,
     texts: &mut [StoredText; MOST_TEXTS],
 ) -> Result<Option<Unfinished>, SinkRefused> {
     let note = start_note(parser, out);
@@ -84,7 +76,7 @@ fn print_target<S: TextSink>(
         texts: &*texts,
         notes: false,
     };
-    if let Some(left) = print_above(parser, out, has_budget, scope)? {
+    if let Some(left) = print_above(parser, out, may_stop, scope)? {
         return Ok(Some(left));
     }
     end_note(parser, &note, out, texts);
@@ -108,32 +100,32 @@ fn stops_at_target(parser: &Parser<'_, '_>, left: Option<Unfinished>) -> bool {
 fn print_noting<S: TextSink>(
     parser: &mut Parser<'_, '_>,
     out: &mut SizeLimitedFmtAdapter<'_, S>,
-    has_budget: bool,
+    may_stop: bool,
 ) -> Result<Option<Unfinished>, SinkRefused> {
     let mut texts = [UNUSED_TEXT; MOST_TEXTS];
     let mut left = Some(Unfinished::Printing);
     while stops_at_target(parser, left) {
-        left = print_target(parser, out, has_budget, &mut texts)?;
+        left = print_target(parser, out, may_stop, &mut texts)?;
         if left.is_none() {
             let scope = PrintScope {
                 base: 0,
                 texts: &texts,
                 notes: true,
             };
-            left = print_above(parser, out, has_budget, scope)?;
+            left = print_above(parser, out, may_stop, scope)?;
         }
     }
     Ok(left)
 }
 
-/// Prints until nothing is left or the stack is full. A parse with a budget also stops when its
-/// fuel is used up. Returns what is left then.
+/// Prints until nothing is left or the stack is full. If it `may_stop`, it also stops when the fuel is
+/// used up. Returns what is left then.
 ///
 /// Fails at the first piece that the limit or the sink rejects.
 pub fn print_steps<S: TextSink>(
     parser: &mut Parser<'_, '_>,
     out: &mut SizeLimitedFmtAdapter<'_, S>,
-    has_budget: bool,
+    may_stop: bool,
 ) -> Result<Option<Unfinished>, SinkRefused> {
     // If the sink can't copy, the compiler drops all that follows a stop at a target.
     let scope = PrintScope {
@@ -141,9 +133,9 @@ pub fn print_steps<S: TextSink>(
         texts: &[],
         notes: out.can_copy(),
     };
-    let left = print_above(parser, out, has_budget, scope)?;
+    let left = print_above(parser, out, may_stop, scope)?;
     if scope.notes && stops_at_target(parser, left) {
-        return print_noting(parser, out, has_budget);
+        return print_noting(parser, out, may_stop);
     }
     Ok(left)
 }
@@ -223,36 +215,13 @@ pub fn print_path<S: TextSink>(
     }
 }
 
-/// Returns the place after a path that was printed within the budget. Returns `None` if anything
-/// is left of it or no fuel is left, as after an error.
+/// Returns the place after a path that was printed to its end. Returns `None` if anything is left of
+/// it, and after an error.
 #[cfg(feature = "stream")]
 #[cfg_attr(not(debug_assertions), inline(always))]
-pub fn end_within(parser: &Parser<'_, '_>, left: Option<Unfinished>) -> Option<usize> {
+pub fn end_of_print(parser: &Parser<'_, '_>, left: Option<Unfinished>) -> Option<usize> {
     match left {
-        None if parser.fuel.left > 0 => parser.place(),
-        _ => None,
-    }
-}
-
-/// Prints what is left of a valid symbol, with `withheld` more bytes, in larger stacks if this one
-/// is full. Returns how much of the path was printed.
-#[cfg(feature = "stream")]
-#[inline(never)]
-pub fn print_rest<S: TextSink>(
-    parser: &mut Parser<'_, '_>,
-    out: &mut SizeLimitedFmtAdapter<'_, S>,
-    withheld: usize,
-) -> Extent {
-    let are_all_allowed = out.allow_more(withheld);
-    parser.fuel = Fuel::none();
-
-    let printed = print_path(parser, out);
-
-    if printed.is_ok() {
-        Extent::Whole
-    } else if are_all_allowed && out.is_limit_reached() {
-        Extent::Cut
-    } else {
-        Extent::Part
+        None => parser.place(),
+        Some(_) => None,
     }
 }

@@ -2,7 +2,6 @@
 //! Parts that a printing parse reads and does not print: impl paths, and folded arguments.
 
 use crate::demangle_v0::reading::read_steps;
-use crate::demangle_v0_parser::fuel::{Fuel, fuel_after};
 use crate::demangle_v0_parser::parse::Parser;
 use crate::demangle_v0_parser::stops::{Checkpoint, ReadOutcome, Unfinished};
 use crate::demangle_v0_parser::{Continuation, State};
@@ -62,43 +61,22 @@ pub fn finish_skip(parser: &mut Parser<'_, '_>, left: Unfinished) -> Option<Unfi
 }
 
 /// Reads the impl path or the folded arguments at which the parser is, and continues after
-/// them. Returns what is left to print if the stack is full before they end.
-#[cfg_attr(not(debug_assertions), inline(always))]
+/// them. Returns what is left to print if the stack is full before they end. They use up no fuel,
+/// but an error in them uses up all.
+#[inline(never)]
 pub fn skip_part(parser: &mut Parser<'_, '_>) -> Option<Unfinished> {
     let base = parser.stack.len();
     let printing = Checkpoint {
         continuation: parser.continuation,
         state: parser.state,
     };
+    let fuel = parser.fuel;
     parser.continuation = skipped_continuation(parser.continuation);
     parser.state.in_value = false;
-    finish_skip(parser, Unfinished::Skipping(base, printing))
-}
-
-/// Returns whether a parse may read a part without output.
-#[cfg_attr(not(debug_assertions), inline(always))]
-pub fn may_skip(parser: &Parser<'_, '_>, has_budget: bool) -> bool {
-    if !has_budget {
-        return true;
-    }
-    match parser.place() {
-        Some(at) => at <= parser.source.symbol.len(),
-        None => false,
-    }
-}
-
-/// Reads the impl path or the folded arguments at which the parser is, continues after them,
-/// and uses up fuel for their bytes. Returns what is left to print if the stack is full before
-/// they end. Then no fuel is left, and neither is after an error.
-#[inline(never)]
-pub fn skip_for_fuel(parser: &mut Parser<'_, '_>) -> Option<Unfinished> {
-    let fuel = parser.fuel;
-    let start = parser.place();
-    if let Some(left) = skip_part(parser) {
+    let left = finish_skip(parser, Unfinished::Skipping(base, printing));
+    parser.fuel = fuel;
+    if parser.place().is_none() {
         parser.fuel.use_up();
-        return Some(left);
     }
-    let left = fuel_after(fuel.left, start, parser.place());
-    parser.fuel = Fuel { left, ..fuel };
-    None
+    left
 }

@@ -6,17 +6,13 @@ use crate::demangle_sink::{SinkRefused, SizeLimitedFmtAdapter, TextSink};
 use crate::demangle_symbol::cursor::Symbol;
 use crate::demangle_symbol::form::Form;
 #[cfg(feature = "stream")]
-use crate::demangle_v0::Extent;
-#[cfg(feature = "stream")]
-use crate::demangle_v0::printer::{end_within, print_rest, print_steps};
+use crate::demangle_v0::printer::{end_of_print, print_steps};
 use crate::demangle_v0::reading::read_steps;
 use crate::demangle_v0::stacks::{FULL_STACK, MIDDLE_STACK, SHORT_STACK};
 
 use crate::demangle_v0_parser::frames::UNUSED_FRAME;
 use crate::demangle_v0_parser::parse::Parser;
 use crate::demangle_v0_parser::stops::ReadOutcome;
-#[cfg(feature = "stream")]
-use crate::demangle_v0_parser::stops::Unfinished;
 use crate::demangle_v0_tokens::source::Source;
 
 /// Reads the rest in a stack with room for every frame. Returns the place after it, or `None`
@@ -102,12 +98,6 @@ pub fn begins_path(symbol: &Symbol<'_>, place: usize) -> bool {
     matches!(symbol.byte(place,), Some(b'A'..=b'Z'))
 }
 
-/// Returns whether a suffix may begin at a place: the end, or a `.`.
-#[cfg(feature = "stream")]
-fn may_begin_suffix(symbol: &Symbol<'_>, place: usize) -> bool {
-    place == symbol.len() || symbol.is_at(b'.', place)
-}
-
 /// Reads a second path after the first one, which ends at a place. Returns the place of the suffix,
 /// or `None` if the second path has an error.
 #[cfg(feature = "stream")]
@@ -122,47 +112,21 @@ fn end_after(parser: &mut Parser<'_, '_>, end: usize) -> Option<usize> {
     path_end(parser, end)
 }
 
-/// A symbol whose first path was printed before it was validated.
-#[cfg(feature = "stream")]
-#[derive(Clone, Copy)]
-pub struct FirstPath {
-    /// The place of the suffix.
-    pub end: usize,
-    /// How much of the path was printed.
-    pub extent: Extent,
-}
-
-/// Prints the first path, at which the parser is, and reads a second one. Returns the symbol, or
-/// `None` if a path has an error. Then a part of the first path may be printed.
+/// Prints the first path, at which the parser is, before it is known whether the symbol is valid, and
+/// reads a second one. Returns the place of the suffix, or `None` if the second path has an error.
 ///
-/// The path is printed before it is known whether the symbol is valid, until the fuel is used up.
-/// Then the symbol is validated, and only the rest of a valid one is printed, with `withheld` more
-/// bytes.
-///
-/// Fails if the limit or the sink rejects a piece, or the limit a reference, before that.
+/// Fails if the path is not printed to its end: if the fuel is used up, the stack is full, the path
+/// has an error, the limit or the sink rejects a piece, or the limit a reference. Then a part of it
+/// may be printed.
 #[cfg(feature = "stream")]
 #[cfg_attr(not(debug_assertions), inline(always))]
-pub fn print_or_validate<S: TextSink>(
+pub fn print_to_suffix<S: TextSink>(
     parser: &mut Parser<'_, '_>,
     out: &mut SizeLimitedFmtAdapter<'_, S>,
-    withheld: usize,
-) -> Result<Option<FirstPath>, SinkRefused> {
+) -> Result<Option<usize>, SinkRefused> {
     let left = print_steps(parser, out, true)?;
-    if let Some(end) = end_within(parser, left) {
-        let Some(end) = end_after(parser, end) else {
-            return Ok(None);
-        };
-        let extent = Extent::Whole;
-        return Ok(Some(FirstPath { end, extent }));
-    }
-    let Some(end) = suffix_at(parser.source.symbol) else {
-        return Ok(None);
+    let Some(end) = end_of_print(parser, left) else {
+        return Err(SinkRefused);
     };
-    let is_suffix = may_begin_suffix(parser.source.symbol, end);
-    let extent = match left {
-        None => Extent::Whole,
-        Some(Unfinished::Printing) if is_suffix => print_rest(parser, out, withheld),
-        Some(_) => Extent::Part,
-    };
-    Ok(Some(FirstPath { end, extent }))
+    Ok(end_after(parser, end))
 }

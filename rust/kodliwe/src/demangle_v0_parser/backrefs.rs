@@ -61,7 +61,7 @@ impl Parser<'_, '_> {
         let after = self.state.lifetimes as usize;
         let end = self.place();
         output.give_back(self.bytes_after(end));
-        self.fuel.leave(end, after, self.source.symbol.len());
+        self.fuel.leave(end, after);
         self.state.place = Some(after);
         Continuation::End
     }

@@ -70,7 +70,7 @@ impl Parser<'_, '_> {
         match self.token_at(TokenKind::BindingName, output) {
             TokenOutcome::Parsed(name, next) => {
                 self.state.place = next;
-                self.fuel.use_up_if(has_encoded_name(&name));
+                self.fuel.pay_text(has_encoded_name(&name));
                 self.emit(&name, output)?;
                 Ok(Continuation::BindingValue)
             }

@@ -65,7 +65,7 @@ impl Parser<'_, '_> {
         if self.source.symbol.is_at(b'e', at) {
             self.state.place = Some(at + 1);
             // The characters of a string are slow to print.
-            self.fuel.use_up();
+            self.fuel.pay_text(true);
             return Continuation::StrLiteral;
         }
         self.with_braces(Continuation::ReferenceConstant)
@@ -102,7 +102,7 @@ impl Parser<'_, '_> {
             ConstantKind::Char => self.end_with_token(TokenKind::Character, output),
             ConstantKind::Text => {
                 // The characters of a string are slow to print.
-                self.fuel.use_up();
+                self.fuel.pay_text(true);
                 Ok(self.with_braces(Continuation::StrConstant))
             }
             ConstantKind::Shared => Ok(self.shared_reference()),
@@ -124,7 +124,7 @@ impl Parser<'_, '_> {
         let (tag, next) = self.source.symbol.tag(at)?;
         // Every constant raises the depth, even a number or a placeholder. A basic type does not.
         self.enter()?;
-        self.fuel.spend();
+        self.fuel.pay_part();
         self.state.place = Some(next);
         self.tagged_constant(tag, output)
     }

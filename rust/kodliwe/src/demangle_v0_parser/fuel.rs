@@ -1,255 +1,142 @@
 // Made from crates/demangle_v0_parser/src/fuel.rt by packaging/crate/erase.py: edit that file instead.
-//! The fuel of a parse that prints, which bounds the work on a run that may be no symbol.
+//! The fuel of a print that may be in vain: the bytes that references may make it read again.
 //!
-//! A back reference may lead to bytes that were read before, and these to others. So the work of
-//! printing is not bounded by the length of the run, and a run that is no symbol must not be
-//! printed to its end. The fuel pays for each step, and for the bytes that are read again. If it is
-//! used up, a parse with a budget stops, and its caller validates the symbol. Only a valid one is
-//! printed on.
+//! A back reference may lead to bytes that were read before, and these to others. So a run that may
+//! be no symbol is not printed to its end in any case. Outside of references a print reads each byte
+//! once, as validation does. Within them it has only a little fuel: some from its start, and some for
+//! each byte that it read outside. If that is used up, the print stops, and its caller validates the
+//! symbol. Only a valid one is printed on.
 //!
-//! Outside of references a parse reads each byte once, as validation does. Within them it has only
-//! a little fuel: some from its start, and some for each byte that it read outside.
+//! The fuel only says where a print stops. The limit of the bytes that are read again bounds its
+//! looks.
 
-use core::mem;
-
-/// The fuel for each byte of a run and for its end.
+/// The fuel of a print at its start.
 #[cfg(feature = "stream")]
-const FUEL_PER_BYTE: usize = 12;
+const FIRST_FUEL: usize = 128;
 
-/// The part of it that a parse has at its start for the steps within references.
-#[cfg(feature = "stream")]
-const FIRST_FUEL: usize = 64;
-
-/// The fuel for those steps that a byte adds which is read outside of references.
+/// The fuel that a byte adds which is read outside of references.
 const EARNED_FUEL: usize = 3;
 
-/// What a constant or a function type uses up of that part.
-const SLOW_FUEL: usize = 64;
+/// The fuel that a reference uses up besides that for the bytes of its target. It is nearly what the
+/// three bytes of a short reference add.
+const REFERENCE: usize = 8;
 
-/// The fuel that a step uses up.
-const STEP_FUEL: usize = 5;
+/// The fuel that a constant or a function type uses up, which are slow to print.
+const SLOW_PART: usize = 16;
 
-/// The fuel that a text uses up which is put again.
-const COPY_FUEL: usize = 5;
+/// The fuel that a name in Punycode or the text of a string uses up, which are slower.
+const SLOW_TEXT: usize = 1024;
 
-/// The fuel that a byte uses up which is read without output.
-const SKIPPED_BYTE_FUEL: usize = 7;
-
-/// How many bytes use up one fuel if they are read within references. Most are those of names, which
-/// are only copied.
-const BYTES_PER_FUEL: usize = 2;
-
-/// The fuel of a parse. Outside of references, `left` pays for the steps, and `reserve` is what the
-/// steps within references may use up. Within a reference it is the other way round. A parse without
-/// a budget has none.
+/// The fuel of a parse. A reference and each byte that it makes the parse read again use up some.
 #[derive(Clone, Copy)]
 pub struct Fuel {
-    /// The fuel for the next steps. The parse ends if it is 0.
-    pub left: usize,
-    /// The fuel that is kept for later.
-    pub reserve: usize,
+    /// How much was used up. Within a reference, this has all bytes by which it leads back.
+    pub used: usize,
+    /// How much may be used up before the print stops. It is 0 for a parse that does not stop.
+    pub most: usize,
     /// The place after the last reference that no other one enclosed.
     pub outer: usize,
-    /// The place from which on no byte within a reference is paid for.
-    pub unpaid: usize,
-    /// Whether the parse is within a reference.
-    pub is_inside: bool,
 }
 
 impl Fuel {
-    /// Returns the fuel of a parse without a budget.
+    /// Returns the fuel of a parse that does not stop.
     #[cfg_attr(not(debug_assertions), inline(always))]
     pub fn none() -> Self {
         Fuel {
-            left: 0,
-            reserve: 0,
+            used: 0,
+            most: 0,
             outer: 0,
-            unpaid: 0,
-            is_inside: false,
         }
     }
 
-    /// Returns the fuel for a run of so many bytes.
+    /// Returns the fuel of a print that may be in vain, at its start.
     #[cfg(feature = "stream")]
     #[cfg_attr(not(debug_assertions), inline(always))]
-    pub fn for_run(bytes: usize) -> Self {
-        let all = bytes.saturating_add(1).saturating_mul(FUEL_PER_BYTE);
-        let reserve = FIRST_FUEL.min(all);
+    pub fn for_first_print() -> Self {
         Fuel {
-            left: all - reserve,
-            reserve,
+            used: 0,
+            most: FIRST_FUEL,
             outer: 0,
-            unpaid: 0,
-            is_inside: false,
         }
     }
 
-    /// Returns how much fuel the steps within references used up. Within one that was not left, this
-    /// is more if all fuel was used up at once.
-    #[cfg(feature = "stream")]
+    /// Returns whether no fuel is left. Then a print that may be in vain stops.
     #[cfg_attr(not(debug_assertions), inline(always))]
-    pub fn used_within(&self) -> usize {
-        let earned = self.outer.saturating_mul(EARNED_FUEL);
-        let left = if self.is_inside {
-            self.left
-        } else {
-            self.reserve
-        };
-        earned.saturating_add(FIRST_FUEL).saturating_sub(left)
+    pub fn is_used_up(&self) -> bool {
+        self.used >= self.most
     }
 
-    /// Uses up the fuel of a step, if the parse has a budget. Returns `false` if there is too little.
-    #[cfg_attr(not(debug_assertions), inline(always))]
-    pub fn pay_step(&mut self, has_budget: bool) -> bool {
-        if !has_budget {
-            return true;
-        }
-        let Some(left) = self.left.checked_sub(STEP_FUEL) else {
-            return false;
-        };
-        self.left = left;
-        true
-    }
-
-    /// Uses up the fuel of a text that is put again. A parse without a budget has none.
-    #[cfg_attr(not(debug_assertions), inline(always))]
-    pub fn pay_copy(&mut self) {
-        self.left = self.left.saturating_sub(COPY_FUEL);
-    }
-
-    /// Leaves no fuel for the next step.
+    /// Leaves no fuel, as after an error. What was used up stays the same.
     #[cfg_attr(not(debug_assertions), inline(always))]
     pub fn use_up(&mut self) {
-        self.left = 0;
+        self.most = self.most.min(self.used);
     }
 
-    /// Leaves no fuel for the next step, if a part is slow to print.
+    /// Uses up so much fuel.
     #[cfg_attr(not(debug_assertions), inline(always))]
-    pub(crate) fn use_up_if(&mut self, is_slow: bool) {
+    fn pay(&mut self, fuel: usize) {
+        self.used = self.used.saturating_add(fuel);
+    }
+
+    /// Uses up fuel for a constant or a function type.
+    #[cfg_attr(not(debug_assertions), inline(always))]
+    pub(crate) fn pay_part(&mut self) {
+        self.pay(SLOW_PART);
+    }
+
+    /// Uses up fuel for a text, if it is slow to print.
+    #[cfg_attr(not(debug_assertions), inline(always))]
+    pub(crate) fn pay_text(&mut self, is_slow: bool) {
         if is_slow {
-            self.left = 0;
+            self.pay(SLOW_TEXT);
         }
     }
 
-    /// Uses up fuel for a constant or a function type, which are slow to print.
-    #[cfg_attr(not(debug_assertions), inline(always))]
-    pub(crate) fn spend(&mut self) {
-        // A parse without a budget has no fuel, and calls nothing.
-        if self.left > 0 {
-            self.spend_slow_fuel();
-        }
-    }
-
-    /// Does the same as `spend`.
-    #[inline(never)]
-    fn spend_slow_fuel(&mut self) {
-        if self.is_inside {
-            self.left = self.left.saturating_sub(SLOW_FUEL);
-            return;
-        }
-        match self.reserve.checked_sub(SLOW_FUEL) {
-            Some(reserve) => self.reserve = reserve,
-            None => self.left = 0,
-        }
-    }
-
-    /// Begins a reference that no other one encloses. It earns fuel for the bytes that were read
-    /// since the one before it.
-    #[cfg_attr(not(debug_assertions), inline(always))]
-    fn enter_first(&mut self, target: usize, next: usize) {
-        let read = next.saturating_sub(self.outer);
-        let earned = read.saturating_mul(EARNED_FUEL).min(self.left);
-        let Some(kept) = (self.left - earned).checked_sub(next - target) else {
-            self.left = 0;
-            return;
-        };
-        self.left = self.reserve.saturating_add(earned);
-        self.reserve = kept;
-        self.outer = next;
-        self.unpaid = target;
-        self.is_inside = true;
-    }
-
-    /// Begins a reference to `target` that ends before `next`, and uses up fuel for the bytes by
-    /// which it leads back.
+    /// Begins a reference to `target` that ends before `next`, and uses up fuel for it and for the
+    /// bytes by which it leads back. If no other one encloses it, it first earns fuel for the bytes
+    /// that were read since the one before it.
     ///
-    /// Uses up all fuel if it is not before the end of the reference that encloses it. Then a target
-    /// is read up to its own reference, and no real symbol has one.
+    /// Uses up all fuel at a reference to which its own target leads. No real symbol has one.
     #[cfg_attr(not(debug_assertions), inline(always))]
     pub(crate) fn enter(&mut self, target: usize, next: usize) {
-        // A parse without a budget has no fuel, and calls nothing.
-        if self.left > 0 {
-            self.enter_reference(target, next);
+        // A parse that does not stop calls nothing.
+        if self.most > 0 {
+            self.enter_limited(target, next);
         }
     }
 
     /// Does the same as `enter`.
     // It is not inlined, so that the loop of printing stays small.
     #[inline(never)]
-    fn enter_reference(&mut self, target: usize, next: usize) {
-        if !self.is_inside {
-            return self.enter_first(target, next);
+    fn enter_limited(&mut self, target: usize, next: usize) {
+        self.pay((next - target).saturating_add(REFERENCE));
+        if next > self.outer {
+            let earned = (next - self.outer).saturating_mul(EARNED_FUEL);
+            self.most = self.most.saturating_add(earned);
+            self.outer = next;
+        } else if next == self.outer {
+            self.use_up();
         }
-        let read = next.saturating_sub(self.unpaid) / BYTES_PER_FUEL;
-        let Some(reserve) = self.reserve.checked_sub(next - target) else {
-            self.left = 0;
-            return;
-        };
-        self.reserve = reserve;
-        self.unpaid = target;
-        self.left = if next < self.outer {
-            self.left.saturating_sub(read)
-        } else {
-            0
-        };
     }
 
     /// Ends a reference, whose target ended at `end`. Gives back the fuel for the bytes from there up
-    /// to `next`, where the parse of a symbol of `len` bytes continues. So a reference uses up the
-    /// fuel for the bytes of its target.
+    /// to `next`, where the parse continues. So a reference uses up the fuel for itself and for the
+    /// bytes of its target.
     ///
     /// Uses up all fuel if the target has an error or ends after the reference.
     #[cfg_attr(not(debug_assertions), inline(always))]
-    pub(crate) fn leave(&mut self, end: Option<usize>, next: usize, len: usize) {
-        if self.left > 0 {
-            self.leave_reference(end, next, len);
+    pub(crate) fn leave(&mut self, end: Option<usize>, next: usize) {
+        if self.most > 0 {
+            self.leave_limited(end, next);
         }
     }
 
     /// Does the same as `leave`.
     #[inline(never)]
-    fn leave_reference(&mut self, end: Option<usize>, next: usize, len: usize) {
-        let Some(end) = end else {
-            self.left = 0;
-            return;
-        };
-        if end > next || next > len {
-            self.left = 0;
-            return;
-        }
-        let read = end.saturating_sub(self.unpaid) / BYTES_PER_FUEL;
-        self.left = self.left.saturating_sub(read);
-        if self.left == 0 {
-            return;
-        }
-        self.reserve = self.reserve.saturating_add(next - end);
-        self.unpaid = next;
-        if next == self.outer {
-            self.is_inside = false;
-            mem::swap(&mut self.left, &mut self.reserve);
+    fn leave_limited(&mut self, end: Option<usize>, next: usize) {
+        match end {
+            Some(end) if end <= next => self.used = self.used.saturating_sub(next - end),
+            _ => self.use_up(),
         }
     }
-}
-
-/// Returns what is left of the fuel after the bytes from one place up to another were read without
-/// output. An error leaves none.
-pub fn fuel_after(fuel: usize, from: Option<usize>, to: Option<usize>) -> usize {
-    let Some(from) = from else {
-        return 0;
-    };
-    let Some(to) = to else {
-        return 0;
-    };
-    let used = to.saturating_sub(from).saturating_mul(SKIPPED_BYTE_FUEL);
-    fuel.saturating_sub(used)
 }

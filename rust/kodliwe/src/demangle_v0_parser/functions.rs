@@ -25,7 +25,7 @@ impl Parser<'_, '_> {
         output: &mut V,
     ) -> Result<Continuation, StepError> {
         let at = self.state.place_or_abort()?;
-        self.fuel.spend();
+        self.fuel.pay_part();
         let (number, next) = self.source.symbol.opt_integer_62(b'G', at)?;
         self.state.place = Some(next);
         if number == 0 {

@@ -57,7 +57,7 @@ impl Parser<'_, '_> {
         let (name, number, next) = named.ok_or(StepError::Abort(FixedText::Invalid))?;
         self.state.place = Some(next);
         self.state.is_bracket_open = false;
-        self.fuel.use_up_if(is_encoded(&name));
+        self.fuel.pay_text(is_encoded(&name));
         self.emit(&Token::CrateName(name, number), output)?;
         Ok(Continuation::End)
     }
@@ -90,7 +90,7 @@ impl Parser<'_, '_> {
         let (ident, number, next) = named.ok_or(StepError::Abort(FixedText::Invalid))?;
         self.state.place = Some(next);
         self.state.is_bracket_open = false;
-        self.fuel.use_up_if(is_encoded(&ident));
+        self.fuel.pay_text(is_encoded(&ident));
         let name = Token::NestedName(self.state.letter, number, ident);
         self.emit(&name, output)?;
         Ok(Continuation::End)

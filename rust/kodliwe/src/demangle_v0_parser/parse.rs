@@ -30,7 +30,7 @@ pub struct Parser<'m, 'f> {
     pub source: Source<'m>,
     pub state: State,
     pub stack: FrameStack<'f>,
-    /// The budget for accepting a symbol. No other parse has fuel.
+    /// The fuel of a print that may be in vain. No other parse stops.
     pub fuel: Fuel,
     pub continuation: Continuation,
 }

@@ -58,7 +58,7 @@ impl Parser<'_, '_> {
         match self.token_at(TokenKind::FieldName, output) {
             TokenOutcome::Parsed(token, next) => {
                 self.state.place = next;
-                self.fuel.use_up_if(has_encoded_name(&token));
+                self.fuel.pay_text(has_encoded_name(&token));
                 self.emit(&token, output)?;
                 Ok(Continuation::FieldColon)
             }

@@ -1,6 +1,6 @@
 use Rattle.std.proofs.Common.{refl, sym, ap, ◌∙◌, subst}
 use Rattle.demangle_v0.specs.HeldTexts.{HoldsTarget, IsTextOf, text_of}
-use Rattle.demangle_v0.proofs.PutAgain.{held_entry, held_within, put_later, put_ran, target_deep}
+use Rattle.demangle_v0.proofs.PutAgain.{held_entry, held_within, put_ran, target_deep}
 use Rattle.demangle_v0.proofs.held_texts.put_target_again.Goals as goal
 
 pub put_again-requires-clause-within : goal.put_again-requires-clause-within
@@ -28,6 +28,4 @@ returns-clause-ran g c k =
     record {
       ran = put_ran sink b form g.met.S.TextSink.took_nothing m.continuation m.state c.args.out.now c.put_again.new.self t m.looks c.requires.target is holds (target_deep m.continuation m.state.depth_left m.state.lifetimes c.requires.target c.requires.valid.fits) c.requires.ready (c.put_again.ensures.put c.if-not-put_again.false);
       is = refl;
-      paid = c.pay_copy.ensures.paid;
-      later = put_later sink b form m.continuation m.state c.args.out.now c.put_again.new.self t is holds (target_deep m.continuation m.state.depth_left m.state.lifetimes c.requires.target c.requires.valid.fits) (c.put_again.ensures.put c.if-not-put_again.false);
     }

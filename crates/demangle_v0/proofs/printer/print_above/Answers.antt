@@ -3,7 +3,7 @@ use Rattle.demangle_v0_parser.specs.Skips.{is_skipped}
 use Rattle.demangle_v0_parser.specs.Targets.{is_target}
 use Rattle.demangle_v0_parser.specs.Measure.{measure}
 use Rattle.std.proofs.Common.{◌≡◌, ◌<◌, ℕ, List, Option, Result, Ok, Err, Some, None, length, true, inl, inr, arith, refl, sym, ap, ◌∙◌, subst}
-use Rattle.demangle_v0_parser.specs.Parsers.{Same, all_of, checkpoint_of, left_at}
+use Rattle.demangle_v0_parser.specs.Parsers.{Same, checkpoint_of}
 use Rattle.demangle_v0_grammar.specs.Reading.{Form}
 use Rattle.demangle_v0_parser.specs.Loops.{Valid, ValidUnfinished, printing}
 use Rattle.demangle_v0_parser.specs.declared.Continuation.TheVariants as continuation
@@ -18,8 +18,6 @@ use Rattle.demangle_v0.proofs.NotedTexts.{held_along}
 use Rattle.demangle_v0_parser.proofs.Parsers.{left_as}
 use Rattle.demangle_v0_parser.proofs.LoopLemmas.{valid_resumes, resumes_length, first_resumes}
 use Rattle.demangle_v0_parser.proofs.StepRuns.{steps_as, steps_less, steps_valid}
-use Rattle.demangle_v0_parser.proofs.Pace.{own_left}
-use Rattle.demangle_v0.proofs.SkipPace.{resumed_place}
 use Rattle.demangle_v0.proofs.SkipSteps.{resumes_less, skip_unread, skipped_valid, skipped_less, skips_valid}
 use Rattle.demangle_v0.proofs.Targets.{neither, put_less, put_valid, skipped_of, split_frames, target_unread, unit_less, unit_runs, unit_valid}
 use Rattle.demangle_v0.proofs.printer.print_above.Goals as goal
@@ -31,68 +29,49 @@ not_full b form n (Ok (Some left.Printing)) r stack looks v = (v.0, omega arith)
 not_full b form n (Ok (Some (left.Skipping base at))) r stack looks v = (v.0, v.1, v.2, omega arith)
 not_full b form n (Err e) r stack looks v = v
 
-pub skip_for_fuel-requires : goal.skip_for_fuel-requires
-skip_for_fuel-requires g c = record { skipped = skipped_of (is_skipped c.resume.new.self.source.form c.in-Some.next) (is_target c.in-Some.next) (sym c.is_aside.ensures ∙ c.if-not-is_aside.false) (sym c.is_target.ensures ∙ c.if-is_target.false); valid = valid_resumes c.steps.invariant.valid c.in-Some.ensures.some }
+pub skip_part-requires : goal.skip_part-requires
+skip_part-requires g c = record { skipped = skipped_of (is_skipped c.resume.new.self.source.form c.in-Some.next) (is_target c.in-Some.next) (sym c.is_aside.ensures ∙ c.if-not-is_aside.false) (sym c.is_target.ensures ∙ c.if-is_target.false); valid = valid_resumes c.steps.invariant.valid c.in-Some.ensures.some }
 
-pub returns-then-not-pay_step-clause-paced : goal.returns-then-not-pay_step-clause-paced
-returns-then-not-pay_step-clause-paced g c = λ b _. rw (c.pay_step.ensures.kept c.if-not-pay_step.true) (c.steps.invariant.paced b)
-
-pub returns-then-not-pay_step-clause-ran : goal.returns-then-not-pay_step-clause-ran
-returns-then-not-pay_step-clause-ran g c = λ below above k l. record { ran = c.steps.invariant.ran below above k l }
+pub returns-then-is_used_up-clause-ran : goal.returns-then-is_used_up-clause-ran
+returns-then-is_used_up-clause-ran g c = λ below above k l. record { ran = c.steps.invariant.ran below above k l }
 
 pub returns-in_default-clause-ran : goal.returns-in_default-clause-ran
 returns-in_default-clause-ran g c = λ below above k l.
     let none = c.in_default.ensures.none in
     rw none.2 (record { ran = above_over (rw none.0 at c.steps.invariant.ran below above k l) l none.1 })
 
-pub returns-then-not-may_skip-clause-ran : goal.returns-then-not-may_skip-clause-ran
-returns-then-not-may_skip-clause-ran g c = λ below above k l. rw c.in-Some.ensures.looks (record { ran = above_resume (c.steps.invariant.ran below above k l) l c.in-Some.ensures.some })
+pub returns-in-Some-skip_part-clause-full : goal.returns-in-Some-skip_part-clause-full
+returns-in-Some-skip_part-clause-full g c = λ _.
+    inr (left_as c.skip_part.new.parser.stack.room c.resume.new.self c.skip_part.new.parser (Ok (Some c.in-Some-skip_part.left)) c.skip_part.ensures.same (skips_valid (skipped_of (is_skipped c.resume.new.self.source.form c.in-Some.next) (is_target c.in-Some.next) (sym c.is_aside.ensures ∙ c.if-not-is_aside.false) (sym c.is_target.ensures ∙ c.if-is_target.false)) (valid_resumes c.steps.invariant.valid c.in-Some.ensures.some) c.in-Some-skip_part.ensures.unfinished))
 
-pub returns-then-not-may_skip-clause-valid : goal.returns-then-not-may_skip-clause-valid
-returns-then-not-may_skip-clause-valid g c = (valid_resumes c.steps.invariant.valid c.in-Some.ensures.some, omega arith)
+pub returns-in-Some-skip_part-clause-valid : goal.returns-in-Some-skip_part-clause-valid
+returns-in-Some-skip_part-clause-valid g c =
+    let k = c.skip_part.new.parser in
+    not_full k.source.symbol.now k.source.form k.stack.room (Ok (Some c.in-Some-skip_part.left)) (checkpoint_of k) k.stack.frames k.looks (left_as c.skip_part.new.parser.stack.room c.resume.new.self c.skip_part.new.parser (Ok (Some c.in-Some-skip_part.left)) c.skip_part.ensures.same (skips_valid (skipped_of (is_skipped c.resume.new.self.source.form c.in-Some.next) (is_target c.in-Some.next) (sym c.is_aside.ensures ∙ c.if-not-is_aside.false) (sym c.is_target.ensures ∙ c.if-is_target.false)) (valid_resumes c.steps.invariant.valid c.in-Some.ensures.some) c.in-Some-skip_part.ensures.unfinished))
 
-pub returns-in-Some-skip_for_fuel-clause-full : goal.returns-in-Some-skip_for_fuel-clause-full
-returns-in-Some-skip_for_fuel-clause-full g c = λ _.
-    inr (left_as c.skip_for_fuel.new.parser.stack.room c.resume.new.self c.skip_for_fuel.new.parser (Ok (Some c.in-Some-skip_for_fuel.left)) c.skip_for_fuel.ensures.same (skips_valid (skipped_of (is_skipped c.resume.new.self.source.form c.in-Some.next) (is_target c.in-Some.next) (sym c.is_aside.ensures ∙ c.if-not-is_aside.false) (sym c.is_target.ensures ∙ c.if-is_target.false)) (valid_resumes c.steps.invariant.valid c.in-Some.ensures.some) c.in-Some-skip_for_fuel.ensures.full))
-
-pub returns-in-Some-skip_for_fuel-clause-valid : goal.returns-in-Some-skip_for_fuel-clause-valid
-returns-in-Some-skip_for_fuel-clause-valid g c =
-    let k = c.skip_for_fuel.new.parser in
-    not_full k.source.symbol.now k.source.form k.stack.room (Ok (Some c.in-Some-skip_for_fuel.left)) (checkpoint_of k) k.stack.frames k.looks (left_as c.skip_for_fuel.new.parser.stack.room c.resume.new.self c.skip_for_fuel.new.parser (Ok (Some c.in-Some-skip_for_fuel.left)) c.skip_for_fuel.ensures.same (skips_valid (skipped_of (is_skipped c.resume.new.self.source.form c.in-Some.next) (is_target c.in-Some.next) (sym c.is_aside.ensures ∙ c.if-not-is_aside.false) (sym c.is_target.ensures ∙ c.if-is_target.false)) (valid_resumes c.steps.invariant.valid c.in-Some.ensures.some) c.in-Some-skip_for_fuel.ensures.full))
-
-pub returns-in-Some-skip_for_fuel-clause-ran : goal.returns-in-Some-skip_for_fuel-clause-ran
-returns-in-Some-skip_for_fuel-clause-ran g c = λ below above k l.
+pub returns-in-Some-skip_part-clause-ran : goal.returns-in-Some-skip_part-clause-ran
+returns-in-Some-skip_part-clause-ran g c = λ below above k l.
     let same : Same c.args.parser.now c.resume.new.self = (c.in-Some.ensures.same.0 ∙ c.steps.invariant.same.0, c.in-Some.ensures.same.1 ∙ c.steps.invariant.same.1, c.in-Some.ensures.same.2 ∙ c.steps.invariant.same.2) in
-    above_left (rw same.1 at (skipped_of (is_skipped c.resume.new.self.source.form c.in-Some.next) (is_target c.in-Some.next) (sym c.is_aside.ensures ∙ c.if-not-is_aside.false) (sym c.is_target.ensures ∙ c.if-is_target.false))) (valid_resumes c.steps.invariant.valid c.in-Some.ensures.some) (rw (same.0, same.1, c.in-Some.ensures.looks) at c.in-Some-skip_for_fuel.ensures.full) (above_resume (c.steps.invariant.ran below above k l) l c.in-Some.ensures.some)
+    above_left (rw same.1 at (skipped_of (is_skipped c.resume.new.self.source.form c.in-Some.next) (is_target c.in-Some.next) (sym c.is_aside.ensures ∙ c.if-not-is_aside.false) (sym c.is_target.ensures ∙ c.if-is_target.false))) (valid_resumes c.steps.invariant.valid c.in-Some.ensures.some) (rw (same.0, same.1, c.in-Some.ensures.looks) at c.in-Some-skip_part.ensures.unfinished) (above_resume (c.steps.invariant.ran below above k l) l c.in-Some.ensures.some)
 
 pub steps-smaller : goal.steps-smaller
 steps-smaller g c =
     let same : Same c.args.parser.now c.resume.new.self = (c.in-Some.ensures.same.0 ∙ c.steps.invariant.same.0, c.in-Some.ensures.same.1 ∙ c.steps.invariant.same.1, c.in-Some.ensures.same.2 ∙ c.steps.invariant.same.2) in
-    skipped_less (rw same.1 at (skipped_of (is_skipped c.resume.new.self.source.form c.in-Some.next) (is_target c.in-Some.next) (sym c.is_aside.ensures ∙ c.if-not-is_aside.false) (sym c.is_target.ensures ∙ c.if-is_target.false))) c.in-Some.ensures.some (rw (same.0, same.1) at c.in_default-skip_for_fuel.ensures.over)
+    skipped_less (rw same.1 at (skipped_of (is_skipped c.resume.new.self.source.form c.in-Some.next) (is_target c.in-Some.next) (sym c.is_aside.ensures ∙ c.if-not-is_aside.false) (sym c.is_target.ensures ∙ c.if-is_target.false))) c.in-Some.ensures.some (rw (same.0, same.1) at c.in_default-skip_part.ensures.following)
 
 pub steps-preserved : goal.steps-preserved
 steps-preserved g c =
     let same : Same c.args.parser.now c.resume.new.self = (c.in-Some.ensures.same.0 ∙ c.steps.invariant.same.0, c.in-Some.ensures.same.1 ∙ c.steps.invariant.same.1, c.in-Some.ensures.same.2 ∙ c.steps.invariant.same.2) in
     let skips = rw same.1 at (skipped_of (is_skipped c.resume.new.self.source.form c.in-Some.next) (is_target c.in-Some.next) (sym c.is_aside.ensures ∙ c.if-not-is_aside.false) (sym c.is_target.ensures ∙ c.if-is_target.false)) in
-    let z = rw (same.0, same.1, c.in-Some.ensures.looks) at c.in_default-skip_for_fuel.ensures.over in
-    let kept = c.in-Some.ensures.fuel in
-    let before = λ (b : c.args.has_budget ≡ true). c.steps.invariant.paced b (c.pay_step.ensures.some c.if-not-pay_step.false b) in
-    let paid = λ (b : c.args.has_budget ≡ true). c.pay_step.ensures.paid c.if-not-pay_step.false b in
-    let at = ap (left_at (length c.args.parser.now.source.symbol.now)) (resumed_place c.in-Some.ensures.some) in
-    let within = c.may_skip.ensures.within c.if-not-may_skip.false in
-    let pace = rw same.0 at c.skip_for_fuel.ensures.paced in
+    let z = rw (same.0, same.1, c.in-Some.ensures.looks) at c.in_default-skip_part.ensures.following in
     record {
       ready = c.steps.invariant.ready;
       valid = skipped_valid skips z (valid_resumes c.steps.invariant.valid c.in-Some.ensures.some);
       ran = λ below above k l. above_skips g.S.TextSink c.args.parser.now.source.symbol.now c.args.parser.now.source.form skips (above_resume (c.steps.invariant.ran below above k l) l c.in-Some.ensures.some) z;
-      same = (c.skip_for_fuel.ensures.same.0 ∙ same.0, c.skip_for_fuel.ensures.same.1 ∙ same.1, c.skip_for_fuel.ensures.same.2 ∙ same.2);
+      same = (c.skip_part.ensures.same.0 ∙ same.0, c.skip_part.ensures.same.1 ∙ same.1, c.skip_part.ensures.same.2 ∙ same.2);
       less = omega (arith, c.steps.invariant.less, skipped_less skips c.in-Some.ensures.some z);
-      grows = omega (arith, c.steps.invariant.grows, c.in-Some.ensures.looks, c.skip_for_fuel.ensures.grows);
-      least = omega (arith, c.steps.invariant.least, c.in-Some.ensures.looks, c.skip_for_fuel.ensures.grows, first_resumes c.in-Some.ensures.some, skip_unread c.args.parser.now.source.form _ c.resume.new.self.state skips);
-      paced = λ b h. omega (arith, pace (rw same.0 at (within b)) h, before b, c.in-Some.ensures.looks, ap all_of kept, paid b, at);
-      most = λ b. omega (arith, rw same.0 at c.skip_for_fuel.ensures.most (rw same.0 at (within b)), before b, c.in-Some.ensures.looks, ap all_of kept, paid b, at);
-      fueled = λ b u. c.steps.invariant.fueled b (c.pay_step.ensures.some c.if-not-pay_step.false b);
-      idle = λ b z. absurd (omega (arith, z, c.steps.invariant.fueled b (c.pay_step.ensures.some c.if-not-pay_step.false b)));
+      grows = omega (arith, c.steps.invariant.grows, c.in-Some.ensures.looks, c.skip_part.ensures.grows);
+      least = omega (arith, c.steps.invariant.least, c.in-Some.ensures.looks, c.skip_part.ensures.grows, first_resumes c.in-Some.ensures.some, skip_unread c.args.parser.now.source.form _ c.resume.new.self.state skips);
     }
 
 pub steps-requires-clause-can_step : goal.steps-requires-clause-can_step
@@ -124,13 +103,6 @@ pub steps-preserved-then-not-is_aside : goal.steps-preserved-then-not-is_aside
 steps-preserved-then-not-is_aside g c =
     let same : Same c.args.parser.now c.resume.new.self = (c.in-Some.ensures.same.0 ∙ c.steps.invariant.same.0, c.in-Some.ensures.same.1 ∙ c.steps.invariant.same.1, c.in-Some.ensures.same.2 ∙ c.steps.invariant.same.2) in
     let d = steps_as (printing g.S.TextSink c.args.parser.now.source.symbol.now c.args.parser.now.source.form).output c.args.parser.now c.resume.new.self (c.in-Some.ensures.same.0 ∙ c.steps.invariant.same.0, c.in-Some.ensures.same.1 ∙ c.steps.invariant.same.1, c.in-Some.ensures.same.2 ∙ c.steps.invariant.same.2) c.in_ok-continuation.ensures.stepped in
-    let kept = c.in-Some.ensures.fuel in
-    let before = λ (b : c.args.has_budget ≡ true). c.steps.invariant.paced b (c.pay_step.ensures.some c.if-not-pay_step.false b) in
-    let paid = λ (b : c.args.has_budget ≡ true). c.pay_step.ensures.paid c.if-not-pay_step.false b in
-    let at = ap (left_at (length c.args.parser.now.source.symbol.now)) (resumed_place c.in-Some.ensures.some) in
-    let pace = rw same.0 at c.in_ok-continuation.ensures.paced refl in
-    let own = own_left 20 c.args.parser.now.source.symbol.now c.resume.new.self.state.place in
-    let own_looks = rw same.0 at c.in_ok-continuation.ensures.own_looks in
     record {
       ready = c.in_ok-continuation.ensures.ready refl;
       valid = steps_valid (valid_resumes c.steps.invariant.valid c.in-Some.ensures.some) d;
@@ -139,10 +111,6 @@ steps-preserved-then-not-is_aside g c =
       less = omega (arith, c.steps.invariant.less, steps_less c.in-Some.ensures.some d);
       grows = omega (arith, c.steps.invariant.grows, c.in-Some.ensures.looks, c.in_ok-continuation.ensures.grows);
       least = omega (arith, c.steps.invariant.least, c.in-Some.ensures.looks, c.in_ok-continuation.ensures.least, first_resumes c.in-Some.ensures.some);
-      paced = λ b h. omega (arith, pace h, before b, c.in-Some.ensures.looks, ap all_of kept, paid b, at);
-      most = λ b. omega (arith, own, own_looks, before b, c.in-Some.ensures.looks, ap all_of kept, paid b, at);
-      fueled = λ b u. c.steps.invariant.fueled b (c.pay_step.ensures.some c.if-not-pay_step.false b);
-      idle = λ b z. absurd (omega (arith, z, c.steps.invariant.fueled b (c.pay_step.ensures.some c.if-not-pay_step.false b)));
     }
 
 pub run_target-requires-clause-ready : goal.run_target-requires-clause-ready
@@ -180,16 +148,11 @@ steps-preserved-then-is_target g c =
     let target = (sym c.is_target.ensures ∙ c.if-is_target.true) in
     let valid = valid_resumes c.steps.invariant.valid c.in-Some.ensures.some in
     let new = c.run_target.new.parser in
-    let kept = c.in-Some.ensures.fuel in
-    let before = λ (b : c.args.has_budget ≡ true). c.steps.invariant.paced b (c.pay_step.ensures.some c.if-not-pay_step.false b) in
-    let paid = λ (b : c.args.has_budget ≡ true). c.pay_step.ensures.paid c.if-not-pay_step.false b in
-    let at = ap (left_at (length b)) (resumed_place c.in-Some.ensures.some) in
     elim c.in-Some-run_target.ensures.ran [
       | inl x ↦
           let z = rw (same.0, same.1, c.in-Some.ensures.looks) at x.1 in
           let frames : new.stack.frames ≡ c.resume.new.self.stack.frames = ap (λ (y : Parser). y.stack.frames) z.is in
           let looks = ap (λ (y : Parser). y.looks) z.is in
-          let later = z.later (length b) in
           rw x.0 (record {
             ready = c.run_target.ensures.ready;
             valid = subst (λ (y : Parser). Valid continuation.End y.state y.stack.frames) (sym z.is) (put_valid new.state.place new.state.is_bracket_open valid);
@@ -198,10 +161,6 @@ steps-preserved-then-is_target g c =
             less = omega (arith, c.steps.invariant.less, put_less g.S.TextSink b form c.in-Some.ensures.some target (z.ran c.resume.new.self.stack.frames), ap (λ (zs : List Frame). measure b form true continuation.End new.state zs) frames);
             grows = omega (arith, c.steps.invariant.grows, looks);
             least = omega (arith, c.steps.invariant.least, looks, first_resumes c.in-Some.ensures.some, target_unread c.in-Some.next c.resume.new.self.state target);
-            paced = λ b h. omega (arith, before b, looks, z.paid h, ap all_of kept, paid b, at, later);
-            most = λ b. omega (arith, before b, looks, ap all_of kept, paid b, at);
-            fueled = λ b u. c.steps.invariant.fueled b (c.pay_step.ensures.some c.if-not-pay_step.false b);
-            idle = λ b z. absurd (omega (arith, z, c.steps.invariant.fueled b (c.pay_step.ensures.some c.if-not-pay_step.false b)));
           })
       | inr x ↦ rw (x.0, x.1, x.2) (record {
         ready = c.steps.invariant.ready;
@@ -211,10 +170,6 @@ steps-preserved-then-is_target g c =
         less = omega (arith, c.steps.invariant.less, unit_less b form c.in-Some.next c.in-Some.ensures.some target);
         grows = omega (arith, c.steps.invariant.grows, c.in-Some.ensures.looks);
         least = omega (arith, c.steps.invariant.least, c.in-Some.ensures.looks, first_resumes c.in-Some.ensures.some, target_unread c.in-Some.next c.resume.new.self.state target);
-        paced = λ b h. omega (arith, before b, c.in-Some.ensures.looks, ap all_of kept, paid b, at);
-        most = λ b. omega (arith, before b, c.in-Some.ensures.looks, ap all_of kept, paid b, at);
-        fueled = λ b u. c.steps.invariant.fueled b (c.pay_step.ensures.some c.if-not-pay_step.false b);
-        idle = λ b z. absurd (omega (arith, z, c.steps.invariant.fueled b (c.pay_step.ensures.some c.if-not-pay_step.false b)));
       })
     ]
 
@@ -241,8 +196,8 @@ returns-clause-full g c = λ b.
     let full : (length c.steps.parser.stack.frames < c.steps.parser.stack.room) → ⊥ = λ u. false≢true (sym c.steps-test.false ∙ c.has_room.ensures.1 u) in
     inr (c.steps.invariant.valid, omega (arith, full))
 
-pub returns-then-not-pay_step-clause-falls : goal.returns-then-not-pay_step-clause-falls
-returns-then-not-pay_step-clause-falls g c = λ _. rw (c.steps.invariant.same.0, c.steps.invariant.same.1) c.steps.invariant.less
+pub returns-then-is_used_up-clause-falls : goal.returns-then-is_used_up-clause-falls
+returns-then-is_used_up-clause-falls g c = λ _. rw (c.steps.invariant.same.0, c.steps.invariant.same.1) c.steps.invariant.less
 
 pub returns-clause-falls : goal.returns-clause-falls
 returns-clause-falls g c = λ _. rw (c.steps.invariant.same.0, c.steps.invariant.same.1) c.steps.invariant.less
@@ -253,13 +208,8 @@ returns-in_default-run_target-clause-falls g c = λ _.
     let z = c.in_default-run_target.ensures.noted in
     rw (z.0, same.0, same.1) (omega (arith, c.steps.invariant.less, resumes_less c.args.parser.now.source.symbol.now c.args.parser.now.source.form true c.in-Some.ensures.some))
 
-pub returns-then-not-may_skip-clause-falls : goal.returns-then-not-may_skip-clause-falls
-returns-then-not-may_skip-clause-falls g c = λ _.
-    let same : Same c.args.parser.now c.resume.new.self = (c.in-Some.ensures.same.0 ∙ c.steps.invariant.same.0, c.in-Some.ensures.same.1 ∙ c.steps.invariant.same.1, c.in-Some.ensures.same.2 ∙ c.steps.invariant.same.2) in
-    rw (same.0, same.1) (omega (arith, c.steps.invariant.less, resumes_less c.args.parser.now.source.symbol.now c.args.parser.now.source.form true c.in-Some.ensures.some))
-
-pub returns-in-Some-skip_for_fuel-clause-falls : goal.returns-in-Some-skip_for_fuel-clause-falls
-returns-in-Some-skip_for_fuel-clause-falls g c = λ q. absurd (skipping_left _ c.in-Some-skip_for_fuel.left _ _ refl c.in-Some-skip_for_fuel.ensures.full.is_left q)
+pub returns-in-Some-skip_part-clause-falls : goal.returns-in-Some-skip_part-clause-falls
+returns-in-Some-skip_part-clause-falls g c = λ q. absurd (skipping_left _ c.in-Some-skip_part.left _ _ refl c.in-Some-skip_part.ensures.unfinished.is_left q)
   where
     skipping_left : (q : Result (Option Unfinished) SinkRefused) (x : Unfinished) (base : ℕ) (r : Checkpoint) → q ≡ Ok (Some x) → x ≡ left.Skipping base r → q ≡ Ok (Some left.Printing) → ⊥
     skipping_left q x base r d e z = cc

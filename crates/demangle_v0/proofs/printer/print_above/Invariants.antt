@@ -1,6 +1,6 @@
-use Rattle.std.proofs.Common.{◌≡◌, ◌+◌, ◌≤◌, ◌<◌, ◌++◌, List, length, true}
+use Rattle.std.proofs.Common.{◌≡◌, ◌+◌, ◌≤◌, ◌++◌, List, length, true}
 use Rattle.demangle_sink.specs.Limit.{Ready}
-use Rattle.demangle_v0_parser.specs.Parsers.{Paced, Same, machine_of, most_looks}
+use Rattle.demangle_v0_parser.specs.Parsers.{Same, machine_of}
 use Rattle.demangle_v0_parser.specs.Measure.{measure}
 use Rattle.demangle_v0.specs.Above.{RunsAbove}
 use Rattle.demangle_v0_parser.specs.Loops.{Valid, first_looks, printing}
@@ -17,10 +17,6 @@ invariant-steps g l = record {
   less : measure l.initial.parser.source.symbol.now l.initial.parser.source.form true l.continuation l.parser.state l.parser.stack.frames ≤ measure l.initial.parser.source.symbol.now l.initial.parser.source.form true l.initial.parser.continuation l.initial.parser.state l.initial.parser.stack.frames;
   grows : l.initial.parser.looks ≤ l.parser.looks;
   least : l.initial.parser.looks + first_looks l.initial.parser.continuation l.initial.parser.state ≤ l.parser.looks + first_looks l.continuation l.parser.state;
-  paced : l.has_budget ≡ true → Paced 0 l.initial.parser l.parser;
-  most : l.has_budget ≡ true → l.parser.looks ≤ most_looks l.initial.parser;
-  fueled : l.has_budget ≡ true → 0 < l.parser.fuel.left → 0 < l.initial.parser.fuel.left;
-  idle : l.has_budget ≡ true → l.initial.parser.fuel.left ≡ 0 → l.parser.looks ≤ l.initial.parser.looks;
 }
 
 abbrev pub decreases-steps : goal.decreases-steps

@@ -1,7 +1,7 @@
-use Rattle.std.proofs.Common.{◌≡◌, ◌<◌, Ok, Err, Some, [], true, refl, ◌∙◌, arith}
+use Rattle.std.proofs.Common.{Ok, Err, Some, [], true, refl, ◌∙◌, arith}
 use Rattle.demangle_v0_parser.specs.Parsers.{Same}
 use Rattle.demangle_v0_parser.specs.declared.stops.Unfinished.TheVariants as left
-use Rattle.demangle_v0.proofs.Noting.{above_all, held_on, most_on, none_is, ok_is, paced_then, some_on, target_joins, zero_on}
+use Rattle.demangle_v0.proofs.Noting.{above_all, held_on, none_is, ok_is, some_on, target_joins}
 use Rattle.demangle_v0.proofs.PrintLoop.{ran_fail}
 use Rattle.demangle_v0.proofs.Targets.{stops_or}
 use Rattle.demangle_v0.proofs.printer.print_noting.Goals as goal
@@ -42,7 +42,6 @@ noting-preserved-then-is_none g c =
     let target = rw (same.0, same.1, none) at over.ran in
     let first = target_joins c.noting.left (Ok (Some left.Printing)) (ok_is _ _ _ refl stops.left) c.noting.invariant.ran target in
     let rest = above_all (rw (next.0, next.1) at (on.ran [] i.stack.frames refl refl)) in
-    let paced_i = λ (b : c.args.has_budget ≡ true) (h : 0 < i.fuel.left). paced_then m k i same (c.noting.invariant.paced b) (over.paced b refl) (over.fueled b) h in
     record {
       ready = on.ready refl;
       ran = target_joins (Some left.Printing) (Ok c.in_ok-left-2.left) refl first rest;
@@ -51,13 +50,6 @@ noting-preserved-then-is_none g c =
       held = held_on g.S.TextSink m.source.symbol.now m.source.form laws.took_nothing laws.took_joined c.in_ok-left-2.left c.print_target.new.texts (over.ready refl) (rw (same.0, same.1) at (over.held refl)) rest;
       same = (on.same.0 ∙ next.0, on.same.1 ∙ next.1, on.same.2 ∙ next.2);
       grows = omega (arith, c.noting.invariant.grows, over.grows, on.grows);
-      paced = λ b h. paced_then m i j next (paced_i b) (on.paced b refl) (on.fueled b) h;
-      most = λ b. most_on m i j next (paced_i b) (most_on m k i same (c.noting.invariant.paced b) (c.noting.invariant.most b) (over.most b) (over.idle b)) (on.most b) (on.idle b);
-      fueled = λ b u. c.noting.invariant.fueled b (over.fueled b (on.fueled b u));
-      idle = λ b z.
-          let zero_k = zero_on m.fuel.left k.fuel.left (c.noting.invariant.fueled b) z in
-          let zero_i = zero_on k.fuel.left i.fuel.left (over.fueled b) zero_k in
-          omega (arith, c.noting.invariant.idle b z, over.idle b zero_k, on.idle b zero_i);
     }
 
 pub noting-preserved : goal.noting-preserved
@@ -78,8 +70,4 @@ noting-preserved g c =
       held = rw (same.0, same.1) at (over.held refl);
       same = (over.same.0 ∙ same.0, over.same.1 ∙ same.1, over.same.2 ∙ same.2);
       grows = omega (arith, c.noting.invariant.grows, over.grows);
-      paced = λ b h. paced_then m k i same (c.noting.invariant.paced b) (over.paced b refl) (over.fueled b) h;
-      most = λ b. most_on m k i same (c.noting.invariant.paced b) (c.noting.invariant.most b) (over.most b) (over.idle b);
-      fueled = λ b u. c.noting.invariant.fueled b (over.fueled b u);
-      idle = λ b z. omega (arith, c.noting.invariant.idle b z, over.idle b (zero_on m.fuel.left k.fuel.left (c.noting.invariant.fueled b) z));
     }

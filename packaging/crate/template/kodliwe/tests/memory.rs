@@ -69,8 +69,8 @@ fn failed_allocations_change_no_text() {
     let text = format!("{short}\n{long}\n{short}\n").repeat(3);
     let wanted = format!("crate::function\n{long_path}\ncrate::function\n").repeat(3);
     let taken = assert_written(&text, &wanted, usize::MAX..usize::MAX);
-    // The buffer of 4,096 bytes doubles seven times. The memo has four tables.
-    assert_eq!(taken, 1 + 7 + 4);
+    // The buffer of 1,024 bytes doubles nine times. The memo has four tables.
+    assert_eq!(taken, 1 + 9 + 4);
     for at in 0..taken {
         assert_written(&text, &wanted, at..at + 1);
         assert_written(&text, &wanted, at..usize::MAX);

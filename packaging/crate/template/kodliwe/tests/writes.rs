@@ -49,9 +49,12 @@ struct Written {
     is_remembered: bool,
 }
 
-/// A symbol that is printed first of all, and its path.
-const FIRST: &str = "_ZN5first17h05af221e174051e9E";
-const FIRST_PATH: &str = "first";
+/// Returns a symbol that is printed first of all, and its path, which has 3,002 bytes.
+fn first() -> (String, String) {
+    let name = "x".repeat(1_500);
+    let symbol = format!("_ZN1500{name}1500{name}17h05af221e174051e9E");
+    (symbol, format!("{name}::{name}"))
+}
 
 /// A filter, and the address of the buffer into which it prints a text of up to 4,096 bytes.
 struct Watched {
@@ -60,18 +63,19 @@ struct Watched {
 }
 
 impl Watched {
-    /// Returns a filter that printed `FIRST`.
+    /// Returns a filter that printed `first`.
     fn new() -> Watched {
         Watched::with_format(Format::new())
     }
 
-    /// Returns a filter that printed `FIRST` in this format.
+    /// Returns a filter that printed `first` in this format, so its buffer has 4,096 bytes.
     fn with_format(format: Format) -> Watched {
         let mut watched = Watched {
             filter: BytesFilter::with_format(format),
             buffer: 0,
         };
-        watched.buffer = watched.write(FIRST, FIRST_PATH).first;
+        let (symbol, path) = first();
+        watched.buffer = watched.write(&symbol, &path).first;
         watched
     }
 

@@ -9,7 +9,7 @@ use crate::demangle_value::value::is_allowed;
 use crate::demangle_value::value::{Demangle, DemangleStyle};
 
 #[cfg(feature = "stream")]
-use crate::demangle_v0::{Extent, FirstPrint, Printed};
+use crate::demangle_v0::{FirstPrint, Printed};
 
 /// Prints a symbol without its suffix into a sink, cut at the limit. Fails if the sink fails.
 fn write_cut<S: TextSink>(
@@ -122,7 +122,7 @@ impl Demangle<'_> {
 
 /// What the path of a run may have in bytes for each byte of the run, and beyond that, before the run
 /// is known to be a symbol. Few paths have more. A short run may bring any number of lifetimes into
-/// scope, or print the target of a reference again and again.
+/// scope.
 #[cfg(feature = "stream")]
 const TIMES_RUN: usize = 4;
 
@@ -133,26 +133,30 @@ const MORE_TEXT: usize = 64;
 #[cfg(feature = "stream")]
 const MOST_TEXT: usize = 1600;
 
-/// Returns the most bytes of the path of a run that are printed before the run is known to be a symbol.
+/// How many bytes may be read again for each byte of a run, and for its end, before the run is known
+/// to be a symbol. Of 60 symbols of generic code one needs more, and none of a log.
+#[cfg(feature = "stream")]
+const FIRST_REREAD: usize = 4;
+
+/// Returns the format of a text with the limits that hold before it is known to be a symbol.
 #[cfg(feature = "stream")]
 #[cfg_attr(not(debug_assertions), inline(always))]
-fn text_limit(run: &str, format: TextFormat) -> usize {
-    let most = run
+fn first_format(text: &str, format: TextFormat) -> TextFormat {
+    let reread = text.len().saturating_add(1).saturating_mul(FIRST_REREAD);
+    let most = match format.reread {
+        Some(greatest) => greatest.min(reread),
+        None => reread,
+    };
+    let limit = text
         .len()
         .saturating_mul(TIMES_RUN)
-        .saturating_add(MORE_TEXT);
-    format.limit.min(most.min(MOST_TEXT))
-}
-
-/// Returns how many bytes the path of a run may have beyond a limit after the run was validated. There
-/// are none if the path may be too long for a buffer, so that it is not printed in vain.
-#[cfg(feature = "stream")]
-#[cfg_attr(not(debug_assertions), inline(always))]
-fn text_withheld(format: TextFormat, limit: usize) -> usize {
-    if format.limit > MAX_SIZE {
-        return 0;
+        .saturating_add(MORE_TEXT)
+        .min(MOST_TEXT);
+    TextFormat {
+        limit: format.limit.min(limit),
+        reread: Some(most),
+        ..format
     }
-    format.limit.saturating_sub(limit)
 }
 
 /// Returns whether a run, or a run with the `_` before it, starts as a v0 symbol.
@@ -176,47 +180,29 @@ pub enum Tried<'a> {
 /// Prints a v0 run before it is known to be a symbol, as `demangle_v0::print_first` does. A run is
 /// ASCII.
 ///
-/// Nothing is known of a path that is much longer than the run, unless the run was validated before
-/// its end was printed.
+/// Nothing is known of a path that is much longer than the run, or for which many bytes are read again.
 #[cfg(feature = "stream")]
 #[inline(never)]
 fn print_v0_first<'a, S: TextSink>(run: &'a str, out: &mut S, format: Format) -> Tried<'a> {
     let text = without_thin_lto(run);
     let limits = TextFormat::for_text(format, text.len());
-    let limit = text_limit(run, limits);
-    let mut limited = SizeLimitedFmtAdapter::with_reread(out, limit, limits.reread);
-    let mut first = FirstPrint {
-        form: limits.form,
-        withheld: text_withheld(limits, limit),
-        fuel: 0,
-    };
-    match crate::demangle_v0::print_first(text, &mut limited, &mut first) {
-        Printed::Symbol(symbol, suffix, extent) => {
+    let first = first_format(text, limits);
+    let mut limited = SizeLimitedFmtAdapter::with_reread(out, first.limit, first.reread);
+    let FirstPrint { printed, fuel } =
+        crate::demangle_v0::print_first(text, &mut limited, first.form);
+    match printed {
+        Printed::Symbol(symbol, suffix) => {
             let allowed = is_allowed(suffix);
-            if allowed {
-                match extent {
-                    Extent::Whole => {
-                        if put_piece(suffix, out).is_ok() {
-                            return Tried::Printed;
-                        }
-                    }
-                    // With a greater limit, the path was not printed up to it.
-                    Extent::Cut if limits.limit <= MAX_SIZE => {
-                        let marked = put_piece("{size limit reached}", out);
-                        if marked.is_ok() && put_piece(suffix, out).is_ok() {
-                            return Tried::Printed;
-                        }
-                    }
-                    Extent::Cut | Extent::Part => {}
-                }
+            if allowed && put_piece(suffix, out).is_ok() {
+                return Tried::Printed;
             }
             let style = DemangleStyle::V0(symbol);
             let read = Demangle::with_style(text, style, suffix, allowed);
-            Tried::InVain(Some(read), first.fuel)
+            Tried::InVain(Some(read), fuel)
         }
         // A run that starts as a v0 symbol has not the prefix of a legacy one.
-        Printed::NoSymbol => Tried::InVain(Some(Demangle::without_style(text)), first.fuel),
-        Printed::Unknown => Tried::InVain(None, first.fuel),
+        Printed::NoSymbol => Tried::InVain(Some(Demangle::without_style(text)), fuel),
+        Printed::Unknown => Tried::InVain(None, fuel),
     }
 }
 

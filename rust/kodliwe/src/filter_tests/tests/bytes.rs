@@ -44,6 +44,32 @@ fn the_rows_of_the_stream_in_chunks_of_each_size() -> Result<(), Fail> {
     Ok(())
 }
 
+/// Symbols that are not printed in one pass, since a part of them is slow to print.
+const SLOW: [(&[u8], &[u8]); 4] = [
+    (
+        b"_RINvC1a1bCu9bcher_kvaC3fooE",
+        b"a::b::<b\xC3\xBCcher, foo>",
+    ),
+    (b"_RINvC1a1bKRe616263_hhE", b"a::b::<\"abc\", u8, u8>"),
+    (
+        b"_RIC1aKj1_Kj1_Kj1_Kj1_Kj1_Kj1_Kj1_Kj1_hE",
+        b"a::<1usize, 1usize, 1usize, 1usize, 1usize, 1usize, 1usize, 1usize, u8>",
+    ),
+    (
+        b"_RIC1aFEuFEuFEuFEuFEuFEuFEuFEuhE",
+        b"a::<fn(), fn(), fn(), fn(), fn(), fn(), fn(), fn(), u8>",
+    ),
+];
+
+#[test]
+fn symbols_that_are_slow_to_print_are_whole() -> Result<(), Fail> {
+    let rt = HostRuntime;
+    for &(text, wanted) in &SLOW {
+        assert_filters(rt.alloc(), text, text.len(), true, wanted)?;
+    }
+    Ok(())
+}
+
 #[test]
 fn bytes_between_symbols_are_kept() -> Result<(), Fail> {
     let rt = HostRuntime;

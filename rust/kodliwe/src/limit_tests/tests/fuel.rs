@@ -5,7 +5,7 @@ use crate::support::rt::HostRuntime;
 use crate::support::string::String;
 
 use crate::demangle_symbol::form::Form;
-use crate::demangle_v0::{Extent, FirstPrint, Printed};
+use crate::demangle_v0::{FirstPrint, Printed};
 use crate::support::alloc::{AllocError, Global};
 
 use crate::support::test::Fail;
@@ -20,24 +20,30 @@ const FOLDED: Form = Form {
     fold_arguments: true,
 };
 
-/// Returns whether the path of a text is printed before the text is validated. The text ends with an
-/// `x`, which is no suffix. So what is not printed by then is not printed at all.
-fn is_printed_first(text: &str, limit: usize, form: Form) -> bool {
+/// Prints the path of a text before the text is known to be a symbol, with a limit of its bytes and of
+/// the bytes that are read again. Returns `None` if the text is not ASCII.
+fn print_within(
+    text: &str,
+    limit: usize,
+    reread: Option<usize>,
+    form: Form,
+) -> Option<FirstPrint<'_>> {
     if !text.is_ascii() {
-        return false;
+        return None;
     }
     let mut sink: ArraySink<4096> = ArraySink::new();
-    let mut out = SizeLimitedFmtAdapter::new(&mut sink, limit);
+    let mut out = SizeLimitedFmtAdapter::with_reread(&mut sink, limit, reread);
 
-    let mut first = FirstPrint {
-        form,
-        withheld: 0,
-        fuel: 0,
-    };
-    matches!(
-        crate::demangle_v0::print_first(text, &mut out, &mut first,),
-        Printed::Symbol(_, "x", Extent::Whole)
-    )
+    Some(crate::demangle_v0::print_first(text, &mut out, form))
+}
+
+/// Returns whether the path of a text is printed before the text is known to be a symbol. The text ends
+/// with an `x`, which is no suffix.
+fn is_printed_first(text: &str, limit: usize, form: Form) -> bool {
+    match print_within(text, limit, None, form) {
+        Some(first) => matches!(first.printed, Printed::Symbol(_, "x")),
+        None => false,
+    }
 }
 
 /// Returns the beginning of a generic path, then a part so many times, and an end.
@@ -53,25 +59,6 @@ fn repeated(alloc: Global, begin: &str, part: &str, count: usize) -> Result<Stri
 
 fn assert_is_printed_first(text: &str, is_wanted: bool) {
     assert_eq!(is_printed_first(text, 4096, PLAIN), is_wanted, "of {text}");
-}
-
-/// Asserts that a valid symbol prints this text.
-fn assert_prints_whole(symbol: &str, wanted: &str) {
-    assert!(symbol.is_ascii());
-    let mut sink: ArraySink<4096> = ArraySink::new();
-    let mut out = SizeLimitedFmtAdapter::new(&mut sink, 4096);
-
-    let mut first = FirstPrint {
-        form: PLAIN,
-        withheld: 0,
-        fuel: 0,
-    };
-    let printed = crate::demangle_v0::print_first(symbol, &mut out, &mut first);
-    assert!(
-        matches!(printed, Printed::Symbol(_, "", Extent::Whole)),
-        "of {symbol}"
-    );
-    assert_eq!(sink.as_str(), wanted, "of {symbol}");
 }
 
 #[test]
@@ -108,35 +95,21 @@ fn folded_paths_are_printed_first() {
     assert!(!is_printed_first("_RNvCu9bcher_kva3foox", 4096, FOLDED));
 }
 
-/// Returns whether all of a symbol's path is printed, if only so many bytes may be passed to the sink
-/// before the symbol is validated, and so many more after that.
-fn is_printed_within(symbol: &str, limit: usize, withheld: usize) -> bool {
-    if !symbol.is_ascii() {
-        return false;
+/// Returns whether the path of a symbol is printed first if so many bytes may be read again.
+fn is_printed_with_reread(symbol: &str, reread: usize) -> bool {
+    match print_within(symbol, 4096, Some(reread), PLAIN) {
+        Some(first) => matches!(first.printed, Printed::Symbol(_, "")),
+        None => false,
     }
-    let mut sink: ArraySink<4096> = ArraySink::new();
-    let mut out = SizeLimitedFmtAdapter::new(&mut sink, limit);
-
-    let mut first = FirstPrint {
-        form: PLAIN,
-        withheld,
-        fuel: 0,
-    };
-    matches!(
-        crate::demangle_v0::print_first(symbol, &mut out, &mut first,),
-        Printed::Symbol(_, "", Extent::Whole)
-    )
 }
 
 #[test]
-fn valid_path_is_printed_with_what_was_withheld() {
-    // The name in Punycode uses up the fuel. The path has 14 bytes up to its end, and then 6.
-    let symbol = "_RINvC1a1bCu9bcher_kvaC3fooE";
-    for (withheld, is_wanted) in [(0usize, false), (5, false), (6, true), (usize::MAX, true)] {
-        assert_eq!(is_printed_within(symbol, 14, withheld), is_wanted);
+fn the_limit_of_references_ends_a_first_print() {
+    // The target is after 3 of the 16 bytes, so its reference may read 13 of them, and the end.
+    let symbol = "_RINvC1a1bNtB2_1cE";
+    for (reread, is_wanted) in [(0usize, false), (13, false), (14, true), (usize::MAX, true)] {
+        assert_eq!(is_printed_with_reread(symbol, reread), is_wanted);
     }
-    // This one is not validated before its end.
-    assert!(!is_printed_within("_RINvC1a1bC6bucherC3fooE", 14, 6));
 }
 
 #[test]
@@ -148,31 +121,39 @@ fn slow_parts_use_up_the_fuel() {
         "_RNtNvC1au9bcher_kva1bx",
         "_RIC1aDC1bpu9bcher_kvahEL_Ex",
         "_RIC12Cu9bcher_kvaB3_Ex",
-        // Strings, and the second constant or function type.
+        // Strings.
         "_RIC1aKRe616263_Ex",
         "_RIC1aKRe_Ex",
         "_RIC1aKe616263_Ex",
-        "_RIC1aKj1_Kj2_Ex",
-        "_RIC1aFEuFEuEx",
     ] {
         assert_is_printed_first(text, false);
     }
 }
 
 #[test]
+fn constants_and_function_types_use_up_some_fuel() -> Result<(), Fail> {
+    let rt = HostRuntime;
+    let alloc = rt.alloc();
+    // Each uses up 16 of the 128 at the start.
+    for &part in &["Kj1_", "FEu"] {
+        for &(count, is_wanted) in &[(1usize, true), (7, true), (8, false), (40, false)] {
+            let text = repeated(alloc, "_RIC1a", part, count)?;
+            assert_is_printed_first(text.as_str(), is_wanted);
+        }
+    }
+    Ok(())
+}
+
+#[test]
 fn references_have_little_fuel() -> Result<(), Fail> {
     let rt = HostRuntime;
     let alloc = rt.alloc();
-    // Each reference has six steps and five bytes, which use up 32. There are 64 at the start, and the
-    // first 13 bytes earn 39, and each reference 9.
-    for &(count, is_wanted) in &[
-        (1usize, true),
-        (3, true),
-        (4, true),
-        (5, false),
-        (40, false),
-    ] {
-        let text = repeated(alloc, "_RINvC1a1bRRRRu", "B7_", count)?;
+    // There are 128 at the start. A reference uses up 8, and the 23 bytes of its target, which begins
+    // after 8 bytes. So when the 8th begins, 7 x 31 + 8 + 47 are used up of 128 + 3 x 55, and when the
+    // 9th begins, 8 x 31 + 8 + 50 of 128 + 3 x 58.
+    for &(count, is_wanted) in &[(1usize, true), (8, true), (9, false), (40, false)] {
+        let begin = "_RINvC1a1bC20aaaaaaaaaaaaaaaaaaaa";
+        let text = repeated(alloc, begin, "B7_", count)?;
         assert_is_printed_first(text.as_str(), is_wanted);
     }
     Ok(())
@@ -207,39 +188,14 @@ fn a_text_ends_at_the_limit() {
     assert!(!is_printed_first(text, 23, PLAIN));
 }
 
-#[test]
-fn the_rest_of_a_valid_symbol_is_printed() {
-    for &(symbol, wanted) in &[
-        ("_RNvCu9bcher_kva3foo", "bücher::foo"),
-        ("_RIC1aKRe616263_E", "a::<\"abc\">"),
-        ("_RIC1aKe616263_E", "a::<{*\"abc\"}>"),
-        ("_RIC1aKj1_Kj2_Kj3_E", "a::<1usize, 2usize, 3usize>"),
-        ("_RIC1aFEuFEuE", "a::<fn(), fn()>"),
-        (
-            "_RINvC1a1bRRRRuB7_B7_B7_B7_E",
-            "a::b::<&&&&(), &&&&(), &&&&(), &&&&(), &&&&()>",
-        ),
-    ] {
-        assert_prints_whole(symbol, wanted);
-    }
-}
-
-/// Returns how much fuel the references of a text used up before it was known that it is no symbol.
+/// Returns how much fuel the references of a text used up that is no symbol.
 fn fuel_in_vain(text: &str) -> usize {
-    if !text.is_ascii() {
+    let Some(FirstPrint { printed, fuel }) = print_within(text, 4096, None, PLAIN) else {
         return 0;
-    }
-    let mut sink: ArraySink<4096> = ArraySink::new();
-    let mut out = SizeLimitedFmtAdapter::new(&mut sink, 4096);
-
-    let mut first = FirstPrint {
-        form: PLAIN,
-        withheld: 0,
-        fuel: 0,
     };
-    match crate::demangle_v0::print_first(text, &mut out, &mut first) {
-        Printed::NoSymbol => first.fuel,
-        _ => 0,
+    match printed {
+        Printed::Symbol(_, _) => 0,
+        Printed::NoSymbol | Printed::Unknown => fuel,
     }
 }
 

@@ -12,6 +12,9 @@ const TEXT_PER_SYMBOL: usize = 12;
 /// How much fuel that its references used up costs one symbol.
 const FUEL_PER_SYMBOL: usize = 32;
 
+/// How many symbols one costs whose print gave up. It is printed again, so less of it was in vain.
+const GIVEN_UP: usize = 16;
+
 /// How many symbols count for later runs.
 const MOST_SAVED: usize = 64;
 
@@ -39,13 +42,21 @@ impl Credit {
         self.owed <= MOST_SAVED
     }
 
-    /// Takes account of a run of which so many bytes were printed in vain, and whose references used up
-    /// so much fuel. Only v0 runs count, because few bytes of others are printed before it is known.
+    /// Takes account of a run that is no symbol, of which so many bytes were printed, and whose
+    /// references used up so much fuel. Only v0 runs count, because few bytes of others are printed before it is known.
     #[cfg_attr(not(debug_assertions), inline(always))]
     pub(super) fn lose(&mut self, run: &str, printed: usize, fuel: usize) {
         if starts_as_v0(run.as_bytes()) {
             let bytes = run.len() / BYTES_PER_SYMBOL + printed / TEXT_PER_SYMBOL;
             self.owed += bytes + fuel / FUEL_PER_SYMBOL + 1;
+        }
+    }
+
+    /// Takes account of a symbol whose print gave up. Only v0 symbols count, as for `lose`.
+    #[cfg_attr(not(debug_assertions), inline(always))]
+    pub(super) fn give_up(&mut self, run: &str) {
+        if starts_as_v0(run.as_bytes()) {
+            self.owed += GIVEN_UP;
         }
     }
 

@@ -148,6 +148,7 @@ impl Store {
             }
             return Some(symbol);
         }
+
         let (read, fuel) = match try_print(run, &mut self.printed, self.format) {
             Tried::Printed => {
                 self.credit.gain();
@@ -155,11 +156,16 @@ impl Store {
             }
             Tried::InVain(read, fuel) => (read, fuel),
         };
-        self.credit.lose(run, self.printed.len(), fuel);
-        match read {
-            Some(symbol) => Some(symbol),
-            None => Some(read_run(run)),
+        let symbol = match read {
+            Some(symbol) => symbol,
+            None => read_run(run),
+        };
+        if has_style(&symbol) {
+            self.credit.give_up(run);
+        } else {
+            self.credit.lose(run, self.printed.len(), fuel);
         }
+        Some(symbol)
     }
 
     /// Prints a run into the buffer, as `print_or_read` does, or after that has read it. If the

@@ -3,14 +3,14 @@ use Rattle.demangle_v0_parser.proofs.ArgumentSteps.{arguments_close, argument_co
 use Rattle.demangle_v0_parser.proofs.ListSteps.{paid_on}
 use Rattle.demangle_v0_parser.proofs.parse.Parser.arguments.Goals as goal
 
-pub returns-in_default-clause-performs : goal.returns-in_default-clause-performs
-returns-in_default-clause-performs c = λ p w. rw (c.end_with.ensures.end, c.end_with.ensures.with_text, c.element_place.ensures.place) (record {
+pub returns-in_default : goal.returns-in_default
+returns-in_default c = λ p w. rw (c.end_with.ensures.end, c.end_with.ensures.with_text, c.element_place.ensures.place) (record {
   does = arguments_close c.args.is_first w c.in_default.ensures.over refl c.element_place.ensures.within_budget;
   same = (refl, refl, refl);
 })
 
-pub returns-clause-performs : goal.returns-clause-performs
-returns-clause-performs c =
+pub returns : goal.returns
+returns c =
     let element = c.in-Some.ensures.element in
     let looked = paid_on _ c.element_place.ensures.within_budget in
     let grows = rw (c.push.ensures, c.element_place.ensures.place) at c.argument.ensures.grows in

@@ -11,47 +11,47 @@ use Rattle.demangle_v0_parser.proofs.Parsers.{advanced_rest}
 use Rattle.demangle_v0_parser.proofs.StepCases.{alike, enters, marks}
 use Rattle.demangle_v0_parser.proofs.parse.Parser.constructed_type.Goals as goal
 
-pub returns-in-ConstPointer-clause-performs : goal.returns-in-ConstPointer-clause-performs
+pub returns-in-ConstPointer : goal.returns-in-ConstPointer
 unfolding parse trace_at
-returns-in-ConstPointer-clause-performs g c = rw (c.in-ConstPointer.is, c.put.ensures) (record { does = marks continuation.Const refl (omega arith) (omega arith) (omega (arith, c.requires.can_step.fits)); same = (refl, refl, refl) })
+returns-in-ConstPointer g c = rw (c.in-ConstPointer.is, c.put.ensures) (record { does = marks continuation.Const refl (omega arith) (omega arith) (omega (arith, c.requires.can_step.fits)); same = (refl, refl, refl) })
 
-pub returns-in-MutPointer-clause-performs : goal.returns-in-MutPointer-clause-performs
+pub returns-in-MutPointer : goal.returns-in-MutPointer
 unfolding parse trace_at
-returns-in-MutPointer-clause-performs g c = rw (c.in-MutPointer.is, c.put-in-MutPointer.ensures) (record { does = marks continuation.Mut refl (omega arith) (omega arith) (omega (arith, c.requires.can_step.fits)); same = (refl, refl, refl) })
+returns-in-MutPointer g c = rw (c.in-MutPointer.is, c.put-in-MutPointer.ensures) (record { does = marks continuation.Mut refl (omega arith) (omega arith) (omega (arith, c.requires.can_step.fits)); same = (refl, refl, refl) })
 
-pub returns-in-Tuple-clause-performs : goal.returns-in-Tuple-clause-performs
-returns-in-Tuple-clause-performs g c = rw c.in-Tuple.is (advanced_rest g.V.Output c.args.output.now _ 5 50 9 c.tuple_type.ensures.performs)
+pub returns-in-Tuple : goal.returns-in-Tuple
+returns-in-Tuple g c = rw c.in-Tuple.is (advanced_rest g.V.Output c.args.output.now _ 5 50 9 c.tuple_type.ensures)
 
-pub returns-in-Array-clause-performs : goal.returns-in-Array-clause-performs
+pub returns-in-Array : goal.returns-in-Array
 unfolding parse trace_at
-returns-in-Array-clause-performs g c = rw (c.in-Array.is, c.put-in-Array.ensures, c.push.ensures) (record { does = enters continuation.«Type» (frame_at continuation.ArrayLength c.args.self.now.state) refl refl (omega arith) (omega arith) (omega arith) (omega (arith, c.requires.can_step.fits)) (omega (arith, c.requires.can_step.fits)) refl; same = (refl, refl, refl) })
+returns-in-Array g c = rw (c.in-Array.is, c.put-in-Array.ensures, c.push.ensures) (record { does = enters continuation.«Type» (frame_at continuation.ArrayLength c.args.self.now.state) refl refl (omega arith) (omega arith) (omega arith) (omega (arith, c.requires.can_step.fits)) (omega (arith, c.requires.can_step.fits)) refl; same = (refl, refl, refl) })
 
-pub returns-in-Pattern-clause-performs : goal.returns-in-Pattern-clause-performs
+pub returns-in-Pattern : goal.returns-in-Pattern
 unfolding parse trace_at
-returns-in-Pattern-clause-performs g c = rw (c.in-Pattern.is, c.push-in-Pattern.ensures) (record { does = enters continuation.«Type» (frame_at continuation.PatternIs c.args.self.now.state) (rw c.requires.can_step.no_pending_text refl) refl (omega arith) (omega arith) (omega arith) (omega (arith, c.requires.can_step.fits)) (omega (arith, c.requires.can_step.fits)) refl; same = (refl, refl, refl) })
+returns-in-Pattern g c = rw (c.in-Pattern.is, c.push-in-Pattern.ensures) (record { does = enters continuation.«Type» (frame_at continuation.PatternIs c.args.self.now.state) (rw c.requires.can_step.no_pending_text refl) refl (omega arith) (omega arith) (omega arith) (omega (arith, c.requires.can_step.fits)) (omega (arith, c.requires.can_step.fits)) refl; same = (refl, refl, refl) })
 
-pub returns-in-Slice-clause-performs : goal.returns-in-Slice-clause-performs
+pub returns-in-Slice : goal.returns-in-Slice
 unfolding parse trace_at
-returns-in-Slice-clause-performs g c = rw (c.in-Slice.is, c.put-in-Slice.ensures, c.push_if_printing.ensures.parser) (record {
+returns-in-Slice g c = rw (c.in-Slice.is, c.put-in-Slice.ensures, c.push_if_printing.ensures.parser) (record {
   does = encloses continuation.«Type» a_type false c.args.self.now.state.in_value fixed.OpenBracket refl refl (omega arith) (omega arith) (omega arith) (omega (arith, c.requires.can_step.fits)) (omega (arith, c.requires.can_step.fits)) c.push_if_printing.ensures.is_printed c.push_if_printing.ensures.without_output;
   same = (refl, refl, refl);
 })
 
-pub returns-in-Backref-clause-performs : goal.returns-in-Backref-clause-performs
-returns-in-Backref-clause-performs g c =
+pub returns-in-Backref : goal.returns-in-Backref
+returns-in-Backref g c =
     let s = c.args.self.now.state in
     let d = c.follow_backref.ensures.performs true a_type false (unit_type c.args.self.now.source.symbol.now c.args.self.now.source.form s.in_value s.letter s.lifetimes) in
     rw c.in-Backref.is (record { does = alike (omega arith) refl (omega arith) (omega arith) d.does; same = d.same })
 
-pub returns-in-Function-clause-performs : goal.returns-in-Function-clause-performs
-returns-in-Function-clause-performs g c = rw c.in-Function.is (record {
+pub returns-in-Function : goal.returns-in-Function
+returns-in-Function g c = rw c.in-Function.is (record {
   does = alike (omega arith) refl (omega arith) (omega arith) c.function_binder.ensures.performs.does;
   same = c.function_binder.ensures.performs.same;
 })
 
-pub returns-in-Dyn-clause-performs : goal.returns-in-Dyn-clause-performs
-returns-in-Dyn-clause-performs g c =
-    let d = advanced_rest g.V.Output c.args.output.now dyn_type 5 4 5 c.dyn_type.ensures.performs in
+pub returns-in-Dyn : goal.returns-in-Dyn
+returns-in-Dyn g c =
+    let d = advanced_rest g.V.Output c.args.output.now dyn_type 5 4 5 c.dyn_type.ensures in
     rw c.in-Dyn.is (record {
       does = alike (omega arith) refl (omega arith) (omega arith) d.does;
       same = d.same;

@@ -25,7 +25,7 @@ returns-in-Path-clause-performs g c =
     })
 
 pub returns-in-Lifetime-clause-performs : goal.returns-in-Lifetime-clause-performs
-returns-in-Lifetime-clause-performs g c = alone (rw c.in-Lifetime.is c.out_of_line.ensures.performs)
+returns-in-Lifetime-clause-performs g c = alone (rw c.in-Lifetime.is c.out_of_line.ensures)
 
 pub returns-in-End-clause-performs : goal.returns-in-End-clause-performs
 returns-in-End-clause-performs g c = alone (rw c.in-End.is (record {
@@ -52,7 +52,7 @@ pub returns-in-Type-clause-performs : goal.returns-in-Type-clause-performs
 returns-in-Type-clause-performs g c = alone (subst (λ (p : Continuation). Performed g.V.Output p c.args.self.now c.args.output.now c.type_.result c.type_.new.self
     c.type_.new.output)
     (type_point c.args.continuation c.may_have_splat.result c.in-Type.is c.may_have_splat.ensures.yes c.may_have_splat.ensures.no)
-    c.type_.ensures.performs)
+    c.type_.ensures)
 
 pub returns-in-NestedName-clause-performs : goal.returns-in-NestedName-clause-performs
 returns-in-NestedName-clause-performs g c = alone (rw c.in-NestedName.is c.nested_name.ensures.performs)
@@ -60,76 +60,76 @@ returns-in-NestedName-clause-performs g c = alone (rw c.in-NestedName.is c.neste
 pub returns-in-InherentImplPath-clause-performs : goal.returns-in-InherentImplPath-clause-performs
 returns-in-InherentImplPath-clause-performs g c = alone (rw c.in-InherentImplPath.is (advanced_without_output g.V.Output c.args.output.now
     continuation.InherentImplPath (λ is_printed. sym (rw c.in-InherentImplPath.is at c.requires.unskipped is_printed))
-    c.read_impl_path.ensures.performs))
+    c.read_impl_path.ensures))
 
 pub returns-in-TraitImplPath-clause-performs : goal.returns-in-TraitImplPath-clause-performs
 returns-in-TraitImplPath-clause-performs g c = alone (rw c.in-TraitImplPath.is (advanced_without_output g.V.Output c.args.output.now continuation.TraitImplPath
     (λ is_printed. sym (rw c.in-TraitImplPath.is at c.requires.unskipped is_printed))
-    c.read_impl_path-in-TraitImplPath.ensures.performs))
+    c.read_impl_path-in-TraitImplPath.ensures))
 
 pub returns-in-InherentSelfType-clause-performs : goal.returns-in-InherentSelfType-clause-performs
 returns-in-InherentSelfType-clause-performs g c = alone (rw c.in-InherentSelfType.is (advanced g.V.Output c.args.output.now continuation.InherentSelfType
-    c.self_type.ensures.performs))
+    c.self_type.ensures))
 
 pub returns-in-TraitSelfType-clause-performs : goal.returns-in-TraitSelfType-clause-performs
 returns-in-TraitSelfType-clause-performs g c = alone (rw c.in-TraitSelfType.is (advanced g.V.Output c.args.output.now continuation.TraitSelfType
-    c.self_type-in-TraitSelfType.ensures.performs))
+    c.self_type-in-TraitSelfType.ensures))
 
 pub returns-in-AsTrait-clause-performs : goal.returns-in-AsTrait-clause-performs
-returns-in-AsTrait-clause-performs g c = alone (rw c.in-AsTrait.is (advanced g.V.Output c.args.output.now continuation.AsTrait c.as_trait.ensures.performs))
+returns-in-AsTrait-clause-performs g c = alone (rw c.in-AsTrait.is (advanced g.V.Output c.args.output.now continuation.AsTrait c.as_trait.ensures))
 
 pub returns-in-Generic-clause-performs : goal.returns-in-Generic-clause-performs
 returns-in-Generic-clause-performs g c = alone (rw c.in-Generic.is (advanced g.V.Output c.args.output.now continuation.Generic
-    c.generic.ensures.performs))
+    c.generic.ensures))
 
 pub returns-in-FirstArgument-clause-performs : goal.returns-in-FirstArgument-clause-performs
 returns-in-FirstArgument-clause-performs g c = alone (rw c.in-FirstArgument.is (advanced_unfolded g.V.Output c.args.output.now true
     continuation.FirstArgument (unless_both g.V.Output.is_printed _ (rw c.in-FirstArgument.is at c.requires.unskipped))
-    c.arguments.ensures.performs))
+    c.arguments.ensures))
 
 pub returns-in-NextArgument-clause-performs : goal.returns-in-NextArgument-clause-performs
 returns-in-NextArgument-clause-performs g c = alone (rw c.in-NextArgument.is (advanced_unfolded g.V.Output c.args.output.now false
-    continuation.NextArgument refl c.arguments-in-NextArgument.ensures.performs))
+    continuation.NextArgument refl c.arguments-in-NextArgument.ensures))
 
 pub returns-in-ArrayLength-clause-performs : goal.returns-in-ArrayLength-clause-performs
-returns-in-ArrayLength-clause-performs g c = alone (rw c.in-ArrayLength.is c.array_length.ensures.performs)
+returns-in-ArrayLength-clause-performs g c = alone (rw c.in-ArrayLength.is c.array_length.ensures)
 
 pub returns-in-FirstTupleType-clause-performs : goal.returns-in-FirstTupleType-clause-performs
 returns-in-FirstTupleType-clause-performs g c = alone (rw c.in-FirstTupleType.is (advanced g.V.Output c.args.output.now
-    continuation.FirstTupleType c.first_tuple_type.ensures.performs))
+    continuation.FirstTupleType c.first_tuple_type.ensures))
 
 pub returns-in-SecondTupleType-clause-performs : goal.returns-in-SecondTupleType-clause-performs
 returns-in-SecondTupleType-clause-performs g c = alone (rw c.in-SecondTupleType.is (advanced g.V.Output c.args.output.now
-    continuation.SecondTupleType c.second_tuple_type.ensures.performs))
+    continuation.SecondTupleType c.second_tuple_type.ensures))
 
 pub returns-in-NextTupleType-clause-performs : goal.returns-in-NextTupleType-clause-performs
 returns-in-NextTupleType-clause-performs g c = alone (rw c.in-NextTupleType.is (advanced g.V.Output c.args.output.now
-    continuation.NextTupleType c.next_tuple_type.ensures.performs))
+    continuation.NextTupleType c.next_tuple_type.ensures))
 
 pub returns-in-ReferenceLifetime-clause-performs : goal.returns-in-ReferenceLifetime-clause-performs
-returns-in-ReferenceLifetime-clause-performs g c = alone (rw c.in-ReferenceLifetime.is c.reference_lifetime.ensures.performs)
+returns-in-ReferenceLifetime-clause-performs g c = alone (rw c.in-ReferenceLifetime.is c.reference_lifetime.ensures)
 
 pub returns-in-MutReferenceLifetime-clause-performs : goal.returns-in-MutReferenceLifetime-clause-performs
 returns-in-MutReferenceLifetime-clause-performs g c = alone (rw c.in-MutReferenceLifetime.is
-    c.reference_lifetime-in-MutReferenceLifetime.ensures.performs)
+    c.reference_lifetime-in-MutReferenceLifetime.ensures)
 
 pub returns-in-FunctionQualifiers-clause-performs : goal.returns-in-FunctionQualifiers-clause-performs
-returns-in-FunctionQualifiers-clause-performs g c = alone (rw c.in-FunctionQualifiers.is c.out_of_line-in-FunctionQualifiers.ensures.performs)
+returns-in-FunctionQualifiers-clause-performs g c = alone (rw c.in-FunctionQualifiers.is c.out_of_line-in-FunctionQualifiers.ensures)
 
 pub returns-in-FirstParameter-clause-performs : goal.returns-in-FirstParameter-clause-performs
 returns-in-FirstParameter-clause-performs g c = alone (rw c.in-FirstParameter.is (advanced g.V.Output c.args.output.now
-    continuation.FirstParameter c.parameter.ensures.performs))
+    continuation.FirstParameter c.parameter.ensures))
 
 pub returns-in-NextParameter-clause-performs : goal.returns-in-NextParameter-clause-performs
 returns-in-NextParameter-clause-performs g c = alone (rw c.in-NextParameter.is (advanced g.V.Output c.args.output.now
-    continuation.NextParameter c.parameter-in-NextParameter.ensures.performs))
+    continuation.NextParameter c.parameter-in-NextParameter.ensures))
 
 pub returns-in-Returns-clause-performs : goal.returns-in-Returns-clause-performs
 returns-in-Returns-clause-performs g c = alone (rw c.in-Returns.is (advanced g.V.Output c.args.output.now continuation.Returns
-    c.returns.ensures.performs))
+    c.returns.ensures))
 
 pub returns-in-DynBinder-clause-performs : goal.returns-in-DynBinder-clause-performs
-returns-in-DynBinder-clause-performs g c = alone (rw c.in-DynBinder.is c.out_of_line-in-DynBinder.ensures.performs)
+returns-in-DynBinder-clause-performs g c = alone (rw c.in-DynBinder.is c.out_of_line-in-DynBinder.ensures)
 
 pub returns-in-FirstDynTrait-clause-performs : goal.returns-in-FirstDynTrait-clause-performs
 returns-in-FirstDynTrait-clause-performs g c = alone (rw c.in-FirstDynTrait.is (advanced g.V.Output c.args.output.now
@@ -140,95 +140,95 @@ returns-in-NextDynTrait-clause-performs g c = alone (rw c.in-NextDynTrait.is (ad
     c.dyn_trait-in-NextDynTrait.ensures.performs))
 
 pub returns-in-TraitPath-clause-performs : goal.returns-in-TraitPath-clause-performs
-returns-in-TraitPath-clause-performs g c = alone (rw c.in-TraitPath.is c.trait_path.ensures.performs)
+returns-in-TraitPath-clause-performs g c = alone (rw c.in-TraitPath.is c.trait_path.ensures)
 
 pub returns-in-FirstTraitArgument-clause-performs : goal.returns-in-FirstTraitArgument-clause-performs
 returns-in-FirstTraitArgument-clause-performs g c = alone (rw c.in-FirstTraitArgument.is (advanced_unfolded g.V.Output c.args.output.now
     true continuation.FirstTraitArgument (unless_both g.V.Output.is_printed _ (rw c.in-FirstTraitArgument.is at
-    c.requires.unskipped)) c.trait_argument.ensures.performs))
+    c.requires.unskipped)) c.trait_argument.ensures))
 
 pub returns-in-FoldedTraitArguments-clause-performs : goal.returns-in-FoldedTraitArguments-clause-performs
 returns-in-FoldedTraitArguments-clause-performs g c = alone (rw c.in-FoldedTraitArguments.is (advanced g.V.Output c.args.output.now
-    continuation.FoldedTraitArguments c.folded_trait_arguments.ensures.performs))
+    continuation.FoldedTraitArguments c.folded_trait_arguments.ensures))
 
 pub returns-in-NextTraitArgument-clause-performs : goal.returns-in-NextTraitArgument-clause-performs
 returns-in-NextTraitArgument-clause-performs g c = alone (rw c.in-NextTraitArgument.is (advanced_unfolded g.V.Output c.args.output.now
-    false continuation.NextTraitArgument refl c.trait_argument-in-NextTraitArgument.ensures.performs))
+    false continuation.NextTraitArgument refl c.trait_argument-in-NextTraitArgument.ensures))
 
 pub returns-in-Bindings-clause-performs : goal.returns-in-Bindings-clause-performs
 returns-in-Bindings-clause-performs g c = alone (rw c.in-Bindings.is (advanced g.V.Output c.args.output.now continuation.Bindings
-    c.bindings.ensures.performs))
+    c.bindings.ensures))
 
 pub returns-in-FurtherBindings-clause-performs : goal.returns-in-FurtherBindings-clause-performs
 returns-in-FurtherBindings-clause-performs g c = alone (rw c.in-FurtherBindings.is (advanced g.V.Output c.args.output.now continuation.FurtherBindings
-    c.further_bindings.ensures.performs))
+    c.further_bindings.ensures))
 
 pub returns-in-BindingName-clause-performs : goal.returns-in-BindingName-clause-performs
-returns-in-BindingName-clause-performs g c = alone (rw c.in-BindingName.is c.out_of_line-in-BindingName.ensures.performs)
+returns-in-BindingName-clause-performs g c = alone (rw c.in-BindingName.is c.out_of_line-in-BindingName.ensures)
 
 pub returns-in-BindingValue-clause-performs : goal.returns-in-BindingValue-clause-performs
 returns-in-BindingValue-clause-performs g c = alone (rw c.in-BindingValue.is (advanced g.V.Output c.args.output.now continuation.BindingValue
-    c.bound_value.ensures.performs))
+    c.bound_value.ensures))
 
 pub returns-in-DynLifetime-clause-performs : goal.returns-in-DynLifetime-clause-performs
-returns-in-DynLifetime-clause-performs g c = alone (rw c.in-DynLifetime.is c.out_of_line-in-DynLifetime.ensures.performs)
+returns-in-DynLifetime-clause-performs g c = alone (rw c.in-DynLifetime.is c.out_of_line-in-DynLifetime.ensures)
 
 pub returns-in-Pattern-clause-performs : goal.returns-in-Pattern-clause-performs
-returns-in-Pattern-clause-performs g c = alone (rw c.in-Pattern.is (advanced g.V.Output c.args.output.now continuation.Pattern c.pattern.ensures.performs))
+returns-in-Pattern-clause-performs g c = alone (rw c.in-Pattern.is (advanced g.V.Output c.args.output.now continuation.Pattern c.pattern.ensures))
 
 pub returns-in-NextPattern-clause-performs : goal.returns-in-NextPattern-clause-performs
-returns-in-NextPattern-clause-performs g c = alone (rw c.in-NextPattern.is (advanced g.V.Output c.args.output.now continuation.NextPattern c.next_pattern.ensures.performs))
+returns-in-NextPattern-clause-performs g c = alone (rw c.in-NextPattern.is (advanced g.V.Output c.args.output.now continuation.NextPattern c.next_pattern.ensures))
 
 pub returns-in-Constant-clause-performs : goal.returns-in-Constant-clause-performs
-returns-in-Constant-clause-performs g c = alone (rw c.in-Constant.is c.out_of_line-in-Constant.ensures.performs)
+returns-in-Constant-clause-performs g c = alone (rw c.in-Constant.is c.out_of_line-in-Constant.ensures)
 
 pub returns-in-Number-clause-performs : goal.returns-in-Number-clause-performs
-returns-in-Number-clause-performs g c = alone (rw c.in-Number.is c.out_of_line-in-Number.ensures.performs)
+returns-in-Number-clause-performs g c = alone (rw c.in-Number.is c.out_of_line-in-Number.ensures)
 
 pub returns-in-StrLiteral-clause-performs : goal.returns-in-StrLiteral-clause-performs
-returns-in-StrLiteral-clause-performs g c = alone (rw c.in-StrLiteral.is c.out_of_line-in-StrLiteral.ensures.performs)
+returns-in-StrLiteral-clause-performs g c = alone (rw c.in-StrLiteral.is c.out_of_line-in-StrLiteral.ensures)
 
 pub returns-in-FirstArrayConstant-clause-performs : goal.returns-in-FirstArrayConstant-clause-performs
 returns-in-FirstArrayConstant-clause-performs g c = alone (rw c.in-FirstArrayConstant.is (advanced g.V.Output c.args.output.now continuation.FirstArrayConstant
-    c.first_list_constant.ensures.performs))
+    c.first_list_constant.ensures))
 
 pub returns-in-NextArrayConstant-clause-performs : goal.returns-in-NextArrayConstant-clause-performs
 returns-in-NextArrayConstant-clause-performs g c = alone (rw c.in-NextArrayConstant.is (advanced g.V.Output c.args.output.now continuation.NextArrayConstant
-    c.next_list_constant.ensures.performs))
+    c.next_list_constant.ensures))
 
 pub returns-in-FirstTupleConstant-clause-performs : goal.returns-in-FirstTupleConstant-clause-performs
 returns-in-FirstTupleConstant-clause-performs g c = alone (rw c.in-FirstTupleConstant.is (advanced g.V.Output c.args.output.now continuation.FirstTupleConstant
-    c.first_list_constant-in-FirstTupleConstant.ensures.performs))
+    c.first_list_constant-in-FirstTupleConstant.ensures))
 
 pub returns-in-NextTupleConstant-clause-performs : goal.returns-in-NextTupleConstant-clause-performs
 returns-in-NextTupleConstant-clause-performs g c = alone (rw c.in-NextTupleConstant.is (advanced g.V.Output c.args.output.now continuation.NextTupleConstant
-    c.next_list_constant-in-NextTupleConstant.ensures.performs))
+    c.next_list_constant-in-NextTupleConstant.ensures))
 
 pub returns-in-FirstVariantConstant-clause-performs : goal.returns-in-FirstVariantConstant-clause-performs
 returns-in-FirstVariantConstant-clause-performs g c = alone (rw c.in-FirstVariantConstant.is (advanced g.V.Output c.args.output.now continuation.FirstVariantConstant
-    c.first_list_constant-in-FirstVariantConstant.ensures.performs))
+    c.first_list_constant-in-FirstVariantConstant.ensures))
 
 pub returns-in-NextVariantConstant-clause-performs : goal.returns-in-NextVariantConstant-clause-performs
 returns-in-NextVariantConstant-clause-performs g c = alone (rw c.in-NextVariantConstant.is (advanced g.V.Output c.args.output.now continuation.NextVariantConstant
-    c.next_list_constant-in-NextVariantConstant.ensures.performs))
+    c.next_list_constant-in-NextVariantConstant.ensures))
 
 pub returns-in-FirstField-clause-performs : goal.returns-in-FirstField-clause-performs
 returns-in-FirstField-clause-performs g c = alone (rw c.in-FirstField.is (advanced g.V.Output c.args.output.now continuation.FirstField
-    c.first_list_constant-in-FirstField.ensures.performs))
+    c.first_list_constant-in-FirstField.ensures))
 
 pub returns-in-NextField-clause-performs : goal.returns-in-NextField-clause-performs
 returns-in-NextField-clause-performs g c = alone (rw c.in-NextField.is (advanced g.V.Output c.args.output.now continuation.NextField
-    c.next_list_constant-in-NextField.ensures.performs))
+    c.next_list_constant-in-NextField.ensures))
 
 pub returns-in-SecondTupleConstant-clause-performs : goal.returns-in-SecondTupleConstant-clause-performs
 returns-in-SecondTupleConstant-clause-performs g c = alone (rw c.in-SecondTupleConstant.is (advanced g.V.Output c.args.output.now continuation.SecondTupleConstant
-    c.second_tuple_constant.ensures.performs))
+    c.second_tuple_constant.ensures))
 
 pub returns-in-Variant-clause-performs : goal.returns-in-Variant-clause-performs
-returns-in-Variant-clause-performs g c = alone (rw c.in-Variant.is c.out_of_line-in-Variant.ensures.performs)
+returns-in-Variant-clause-performs g c = alone (rw c.in-Variant.is c.out_of_line-in-Variant.ensures)
 
 pub returns-in-Field-clause-performs : goal.returns-in-Field-clause-performs
-returns-in-Field-clause-performs g c = alone (rw c.in-Field.is c.out_of_line-in-Field.ensures.performs)
+returns-in-Field-clause-performs g c = alone (rw c.in-Field.is c.out_of_line-in-Field.ensures)
 
 pub returns-in-AfterBackref-clause-performs : goal.returns-in-AfterBackref-clause-performs
-returns-in-AfterBackref-clause-performs g c = alone (rw c.in-AfterBackref.is c.after_backref.ensures.performs)
+returns-in-AfterBackref-clause-performs g c = alone (rw c.in-AfterBackref.is c.after_backref.ensures)

@@ -8,16 +8,16 @@ use Rattle.demangle_v0_parser.proofs.FunctionSteps.{binder_unread, binder_stops,
 use Rattle.demangle_v0_parser.proofs.PrimitiveLooks.{optional_there}
 use Rattle.demangle_v0_parser.proofs.parse.Parser.dyn_binder.Goals as goal
 
-pub returns-in_err-at-clause-performs : goal.returns-in_err-at-clause-performs
+pub returns-in_err-at : goal.returns-in_err-at
 unfolding trace_at
-returns-in_err-at-clause-performs g c = let failed = c.in_err-at.ensures.failed in rw (stops c.from_residual.result c.from_residual.ensures.1 failed.1) (record {
+returns-in_err-at g c = let failed = c.in_err-at.ensures.failed in rw (stops c.from_residual.result c.from_residual.ensures.1 failed.1) (record {
   does = binder_unread first_traits c.requires.can_step.no_pending_text failed.0 (omega arith);
   same = (refl, refl, refl);
 })
 
-pub returns-in_err-number-clause-performs : goal.returns-in_err-number-clause-performs
+pub returns-in_err-number : goal.returns-in_err-number
 unfolding trace_at
-returns-in_err-number-clause-performs g c = rw (stops_invalid c.from_residual-in_err-number.result c.from_residual-in_err-number.ensures.1
+returns-in_err-number g c = rw (stops_invalid c.from_residual-in_err-number.result c.from_residual-in_err-number.ensures.1
     c.in_err-number.ensures.fault) (record {
       does = binder_stops (omega arith) first_traits c.in_ok-at.at c.in_ok-at.ensures.ok c.requires.can_step.no_pending_text
           c.in_err-number.ensures.read
@@ -25,9 +25,9 @@ returns-in_err-number-clause-performs g c = rw (stops_invalid c.from_residual-in
       same = (refl, refl, refl);
     })
 
-pub returns-then-number-eq0-clause-performs : goal.returns-then-number-eq0-clause-performs
+pub returns-then-number-eq0 : goal.returns-then-number-eq0
 unfolding trace_at
-returns-then-number-eq0-clause-performs g c =
+returns-then-number-eq0 g c =
     let there = optional_there _ _ _ _ _ (sym c.in_ok-number.ensures.read) in
     let d = advanced g.V.Output c.args.output.now continuation.FirstDynTrait c.dyn_trait.ensures.performs in
     record {
@@ -50,9 +50,9 @@ returns-then-number-eq0-clause-performs g c =
       same = d.same;
     }
 
-pub returns-in_err-bind_lifetimes-clause-performs : goal.returns-in_err-bind_lifetimes-clause-performs
+pub returns-in_err-bind_lifetimes : goal.returns-in_err-bind_lifetimes
 unfolding trace_at
-returns-in_err-bind_lifetimes-clause-performs g c =
+returns-in_err-bind_lifetimes g c =
     let there = optional_there _ _ _ _ _ (sym c.in_ok-number.ensures.read) in
     rw (
       c.in_err-bind_lifetimes.ensures.parser,
@@ -77,9 +77,9 @@ returns-in_err-bind_lifetimes-clause-performs g c =
       same = (refl, refl, refl);
     })
 
-pub returns-clause-performs : goal.returns-clause-performs
+pub returns : goal.returns
 unfolding trace_at
-returns-clause-performs g c =
+returns g c =
     let there = optional_there _ _ _ _ _ (sym c.in_ok-number.ensures.read) in
     rw c.in_ok-bind_lifetimes.ensures.parser (record {
       does = binder_continues (omega arith) continuation.FirstDynTrait first_traits c.in_ok-at.at c.in_ok-number.next

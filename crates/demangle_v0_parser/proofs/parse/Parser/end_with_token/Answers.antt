@@ -2,7 +2,6 @@ use Rattle.std.proofs.Common.{arith, refl}
 use Rattle.demangle_v0_parser.proofs.StepErrors.{stops}
 use Rattle.demangle_v0_parser.proofs.StepCases.{token_ends, token_stops, token_faults}
 use Rattle.demangle_v0_parser.proofs.PrimitiveLooks.{group_tight}
-use Rattle.demangle_v0_parser.proofs.Pace.{token_paced}
 use Rattle.demangle_v0_parser.proofs.parse.Parser.end_with_token.Goals as goal
 
 pub returns-in_err-emit-in-Parsed-clause-performs : goal.returns-in_err-emit-in-Parsed-clause-performs
@@ -68,10 +67,3 @@ returns-in_ok-emit-in-Parsed-clause-own_looks g c =
     let own_looks = group_tight c.args.self.now.source.symbol.now c.args.token_kind c.args.self.now.state.letter g.V.Output.is_printed
     c.args.self.now.state.lifetimes c.args.self.now.state.place in
     omega (arith, c.in-Parsed.ensures.looks, e.most, own_looks)
-
-pub returns-in_ok-emit-in-Parsed-clause-paced : goal.returns-in_ok-emit-in-Parsed-clause-paced
-returns-in_ok-emit-in-Parsed-clause-paced g c =
-    let m = c.args.self.now in
-    let e = c.in_ok-emit-in-Parsed.ensures in
-    let pace = token_paced m.source.symbol.now c.args.token_kind m.state.letter g.V.Output.is_printed m.state.lifetimes m.state.place c.in-Parsed.token c.in-Parsed.next c.in-Parsed.ensures.value in
-    rw (e.parser, c.token_at.ensures.parser) (λ _ _. omega (arith, c.in-Parsed.ensures.looks, e.most, pace))

@@ -3,15 +3,15 @@ use Rattle.demangle_v0_parser.proofs.ConstantListSteps.{constants}
 use Rattle.demangle_v0_parser.proofs.ListSteps.{list_continues, list_shuts}
 use Rattle.demangle_v0_parser.proofs.parse.Parser.first_list_constant.Goals as goal
 
-pub returns-then-ends_list-clause-performs : goal.returns-then-ends_list-clause-performs
-returns-then-ends_list-clause-performs c = λ p. rw (c.end_with.ensures.end, c.end_with.ensures.with_text, c.close.ensures, c.ends_list.ensures.place) (record {
+pub returns-then-ends_list : goal.returns-then-ends_list
+returns-then-ends_list c = λ p. rw (c.end_with.ensures.end, c.end_with.ensures.with_text, c.close.ensures, c.ends_list.ensures.place) (record {
   does = list_shuts (constants _ true c.args.list) (sym c.ends_list.ensures.over ∙ c.if-ends_list.true) refl
       c.ends_list.ensures.within_budget;
   same = (refl, refl, refl);
 })
 
-pub returns-clause-performs : goal.returns-clause-performs
-returns-clause-performs c = λ p. rw (c.element.ensures, c.push.ensures, c.after_first.ensures, c.ends_list.ensures.place) (record {
+pub returns : goal.returns
+returns c = λ p. rw (c.element.ensures, c.push.ensures, c.after_first.ensures, c.ends_list.ensures.place) (record {
   does = list_continues (constants _ true c.args.list) (sym c.ends_list.ensures.over ∙ c.if-ends_list.false) refl
       c.ends_list.ensures.within_budget c.requires.can_step.no_pending_text c.requires.can_step.fits refl;
   same = (refl, refl, refl);

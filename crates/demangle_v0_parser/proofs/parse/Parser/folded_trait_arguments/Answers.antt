@@ -5,9 +5,9 @@ use Rattle.demangle_v0_parser.specs.declared.Continuation.TheVariants as continu
 use Rattle.demangle_v0_parser.proofs.StepCases.{marks}
 use Rattle.demangle_v0_parser.proofs.parse.Parser.folded_trait_arguments.Goals as goal
 
-pub returns-clause-performs : goal.returns-clause-performs
+pub returns : goal.returns
 unfolding parse trace_at
-returns-clause-performs c = λ p. rw c.put.ensures (record {
+returns c = λ p. rw c.put.ensures (record {
   does = marks continuation.End refl (omega arith) (omega arith) tt;
   same = (refl, refl, refl);
 })

@@ -33,12 +33,6 @@ enter-requires g c =
     let r = refers m.source.symbol.now m.state.depth_left m.state.place c.in-Target.target c.in-Target.next c.in-Target.ensures.value in
     omega (arith, r.back)
 
-pub returns-then-not-is_printing-clause-paced : goal.returns-then-not-is_printing-clause-paced
-returns-then-not-is_printing-clause-paced g c =
-    let m = c.args.self.now in
-    let r = refers m.source.symbol.now m.state.depth_left m.state.place c.in-Target.target c.in-Target.next c.in-Target.ensures.value in
-    λ _ _. omega (arith, c.in-Target.ensures.looks, r.back, r.within, r.slow)
-
 pub returns-in_err-follow-in-Target-clause-performs : goal.returns-in_err-follow-in-Target-clause-performs
 returns-in_err-follow-in-Target-clause-performs g c = λ closed k value unit. record {
   does = rw (stops c.from_residual.result c.from_residual.ensures.1 refl) (target_refused closed k value c.in-Target.target c.in-Target.next c.in-Target.ensures.value
@@ -66,18 +60,6 @@ returns-else-looks_up-clause-performs g c = λ closed k value unit. record {
       (ap (λ (s : Stack). s.frames) (rw c.frame-frame.ensures at c.push.ensures.pushed (omega arith)));
   same = (refl, refl, c.push.ensures.room);
 }
-
-pub returns-then-looks_up-clause-paced : goal.returns-then-looks_up-clause-paced
-returns-then-looks_up-clause-paced g c =
-    let m = c.args.self.now in
-    let r = refers m.source.symbol.now m.state.depth_left m.state.place c.in-Target.target c.in-Target.next c.in-Target.ensures.value in
-    λ _ some. omega (arith, c.in-Target.ensures.looks, r.back, r.within, r.slow, c.enter.ensures.paid some)
-
-pub returns-else-looks_up-clause-paced : goal.returns-else-looks_up-clause-paced
-returns-else-looks_up-clause-paced g c =
-    let m = c.args.self.now in
-    let r = refers m.source.symbol.now m.state.depth_left m.state.place c.in-Target.target c.in-Target.next c.in-Target.ensures.value in
-    λ _ some. omega (arith, c.in-Target.ensures.looks, r.back, r.within, r.slow, c.enter.ensures.paid some)
 
 -- A reference that is not followed reads on.
 

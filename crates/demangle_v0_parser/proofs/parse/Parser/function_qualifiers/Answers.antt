@@ -1,5 +1,4 @@
-use Rattle.std.proofs.Common.{◌≡◌, length, ap, arith, refl}
-use Rattle.demangle_v0_parser.specs.Parsers.{all_of, left_at}
+use Rattle.std.proofs.Common.{arith, refl}
 use Rattle.demangle_v0_parser.specs.Traces.{trace_at}
 use Rattle.demangle_v0_parser.specs.declared.Continuation.TheVariants as continuation
 use Rattle.demangle_v0_tokens.specs.declared.token.TokenKind.TheVariants as token_kind
@@ -8,7 +7,6 @@ use Rattle.demangle_v0_parser.proofs.Parsers.{advanced}
 use Rattle.demangle_v0_grammar.specs.Table.{parameters}
 use Rattle.demangle_v0_parser.proofs.StepCases.{token_continues, token_bare, token_refuses, word_stops}
 use Rattle.demangle_v0_parser.proofs.PrimitiveLooks.{group_tight, own_more}
-use Rattle.demangle_v0_parser.proofs.Pace.{token_paced}
 use Rattle.demangle_v0_parser.proofs.parse.Parser.function_qualifiers.Goals as goal
 
 pub returns-then-has_no_qualifiers-clause-performs : goal.returns-then-has_no_qualifiers-clause-performs
@@ -111,20 +109,3 @@ returns-in-NotParsed-clause-own_looks g c =
     let tight = group_tight m.source.symbol.now token_kind.FunctionQualifiers m.state.letter g.V.Output.is_printed m.state.lifetimes
     m.state.place in
     rw c.token_at.ensures.parser (omega (arith, c.in-NotParsed.ensures.looks, tight))
-
-pub returns-in_ok-emit-in-Parsed-clause-paced : goal.returns-in_ok-emit-in-Parsed-clause-paced
-returns-in_ok-emit-in-Parsed-clause-paced g c =
-    let m = c.args.self.now in
-    let e = c.in_ok-emit-in-Parsed.ensures in
-    let pace = token_paced m.source.symbol.now token_kind.FunctionQualifiers m.state.letter g.V.Output.is_printed m.state.lifetimes m.state.place c.in-Parsed.head c.in-Parsed.next c.in-Parsed.ensures.value in
-    rw (e.parser, c.token_at.ensures.parser) (λ _ _. omega (arith, c.in-Parsed.ensures.looks, e.most, pace))
-
-pub returns-then-has_no_qualifiers-clause-paced : goal.returns-then-has_no_qualifiers-clause-paced
-returns-then-has_no_qualifiers-clause-paced g c =
-    let m = c.args.self.now in
-    let pace = token_paced m.source.symbol.now token_kind.FunctionQualifiers m.state.letter g.V.Output.is_printed m.state.lifetimes m.state.place c.in-Parsed.head c.in-Parsed.next c.in-Parsed.ensures.value in
-    let same : c.token_at.new.self.source.symbol.now ≡ m.source.symbol.now = ap (λ k. k.source.symbol.now) c.token_at.ensures.parser in
-    let fuel = ap (λ k. all_of k.fuel) c.token_at.ensures.parser in
-    let before = ap (λ b. left_at (length b) c.in-Parsed.next) same in
-    let after = ap (λ b. left_at (length b) c.queue_text.new.self.state.place) same in
-    λ _ some. omega (arith, c.in-Parsed.ensures.looks, pace, fuel, before, after, c.queue_text.ensures.paced some)

@@ -5,17 +5,17 @@ use Rattle.demangle_v0_parser.specs.declared.Continuation.TheVariants as continu
 use Rattle.demangle_v0_parser.proofs.StepCases.{marks}
 use Rattle.demangle_v0_parser.proofs.parse.Parser.generic.Goals as goal
 
-pub returns-then-self-clause-performs : goal.returns-then-self-clause-performs
+pub returns-then-self : goal.returns-then-self
 unfolding parse trace_at
-returns-then-self-clause-performs c = λ p. rw c.put.ensures (record {
+returns-then-self c = λ p. rw c.put.ensures (record {
   does = marks continuation.OpenArguments
       (rw c.if-self.true refl) (omega arith) (omega arith) c.requires.can_step.fits;
   same = (refl, refl, refl);
 })
 
-pub returns-clause-performs : goal.returns-clause-performs
+pub returns : goal.returns
 unfolding parse trace_at
-returns-clause-performs c = λ p. rw c.put-2.ensures (record {
+returns c = λ p. rw c.put-2.ensures (record {
   does = marks continuation.FirstArgument (rw c.if-self.false
       refl) (omega arith) (omega arith) c.requires.can_step.fits;
   same = (refl, refl, refl);

@@ -3,8 +3,8 @@ use Rattle.demangle_v0_parser.proofs.ListSteps.{list_continues, list_shuts}
 use Rattle.demangle_v0_parser.proofs.TupleSteps.{next_type}
 use Rattle.demangle_v0_parser.proofs.parse.Parser.next_tuple_type.Goals as goal
 
-pub returns-then-ends_list-clause-performs : goal.returns-then-ends_list-clause-performs
-returns-then-ends_list-clause-performs c = λ p. rw (c.end_with.ensures.end, c.end_with.ensures.with_text, c.ends_list.ensures.place) (record { does = list_shuts (next_type _) (sym c.ends_list.ensures.over ∙ c.if-ends_list.true) refl c.ends_list.ensures.within_budget; same = (refl, refl, refl) })
+pub returns-then-ends_list : goal.returns-then-ends_list
+returns-then-ends_list c = λ p. rw (c.end_with.ensures.end, c.end_with.ensures.with_text, c.ends_list.ensures.place) (record { does = list_shuts (next_type _) (sym c.ends_list.ensures.over ∙ c.if-ends_list.true) refl c.ends_list.ensures.within_budget; same = (refl, refl, refl) })
 
-pub returns-clause-performs : goal.returns-clause-performs
-returns-clause-performs c = λ p. rw (c.put.ensures, c.push.ensures, c.ends_list.ensures.place) (record { does = list_continues (next_type _) (sym c.ends_list.ensures.over ∙ c.if-ends_list.false) refl c.ends_list.ensures.within_budget refl c.requires.can_step.fits refl; same = (refl, refl, refl) })
+pub returns : goal.returns
+returns c = λ p. rw (c.put.ensures, c.push.ensures, c.ends_list.ensures.place) (record { does = list_continues (next_type _) (sym c.ends_list.ensures.over ∙ c.if-ends_list.false) refl c.ends_list.ensures.within_budget refl c.requires.can_step.fits refl; same = (refl, refl, refl) })

@@ -1,8 +1,7 @@
-use Rattle.std.proofs.Common.{◌≡◌, ◌+◌, ◌<◌, Bool, true, ◌&&◌, ◌||◌, Some, None, Result, Ok, Err, IsOk, IsErr, false, length, arith, refl, sym, subst, ap, ◌∙◌, length-append}
+use Rattle.std.proofs.Common.{◌≡◌, ◌+◌, ◌<◌, Bool, true, ◌&&◌, ◌||◌, Some, None, Result, Ok, Err, IsOk, IsErr, false, length, arith, refl, sym, ap, ◌∙◌, length-append}
 use Rattle.std.proofs.lemmas.Bool.{false≢true, eqb-true, leb-false, not-true}
 use Rattle.demangle_symbol.specs.Primitives.{byte_at, namespace_at, is_upper}
 use Rattle.demangle_v0_tokens.specs.declared.fixed_texts.FixedText.TheVariants as fixed
-use Rattle.demangle_v0_parser.specs.Parsers.{all_of}
 use Rattle.demangle_v0_parser.specs.StepRuns.{name_frames}
 use Rattle.demangle_v0_parser.specs.Traces.{trace_at}
 use Rattle.demangle_v0_parser.specs.declared.Continuation.{Continuation}
@@ -10,7 +9,6 @@ use Rattle.demangle_v0_parser.specs.declared.Continuation.TheVariants as continu
 use Rattle.demangle_v0_parser.specs.declared.StepError.{StepError}
 use Rattle.demangle_v0_parser.specs.declared.StepError.TheVariants.{Abort}
 use Rattle.demangle_v0_parser.specs.declared.frames.Frame.{Frame}
-use Rattle.demangle_v0_parser.specs.declared.fuel.Fuel.{Fuel}
 use Rattle.demangle_v0_parser.specs.declared.parse.Parser.{Parser}
 use Rattle.demangle_v0_parser.proofs.Pace.{place_left}
 use Rattle.demangle_v0_parser.proofs.StepErrors.{stops}
@@ -62,17 +60,6 @@ returns-then-tag-eq67-clause-performs g c =
     let k = c.crate_name-performed in
     inner_last g.V.Output m k.new.self c.names_after.new.self c.args.output.now k.new.output c.names_after.new.output m.state.depth_left c.paths.count c.paths.at 67 c.in-Ok.next c.paths.self.looks c.tag.new.looks k.result c.names_after.result c.paths.invariant.ran (omega (arith, c.paths-test.true)) tag c.tag.ensures.look
     (crate_inner g.V.Output (in_crate g.V.Output m m.state.depth_left c.paths.count c.in-Ok.next c.tag.new.looks) k.new.self c.args.output.now k.new.output k.result (rw (c.paths.invariant.parser, c.paths.invariant.output) at k.ensures.performs)) (rw c.paths.invariant.parser at k.ensures.placed) c.names_after.ensures.follow
-
-pub returns-then-tag-eq67-clause-paced : goal.returns-then-tag-eq67-clause-paced
-returns-then-tag-eq67-clause-paced g c = λ ok.
-    let placed = rw c.paths.invariant.parser at c.crate_name-performed.ensures.placed in
-    let source = ap (λ (z : Parser). z.source) placed in
-    let first = (rw c.paths.invariant.parser at c.crate_name-performed.ensures.reads) (c.names_after.ensures.inner ok) in
-    let others = (rw source at c.names_after.ensures.reads) ok in
-    λ some.
-    let after = c.names_after.ensures.fuel some in
-    let before = c.crate_name-performed.ensures.fuel (subst (λ (f : Fuel). 0 < f.left) after some) in
-    omega (arith, first, others, c.paths.invariant.pace, c.tag.ensures.look, rw c.paths.invariant.parser at c.in-Ok.ensures.within, ap all_of after, ap all_of before, ap (λ (z : Parser). all_of z.fuel) c.paths.invariant.parser, ap (λ (z : Parser). z.looks) c.paths.invariant.parser)
 
 either_result : {X : Type 0} (r : Result Continuation StepError) → (IsOk r → X) → (IsErr r → X) → X
 either_result (Ok p) f g = f refl
@@ -131,7 +118,7 @@ otherwise-clause-performs g c =
     let m = c.args.self.now in
     let read : Some (c.in-Ok.tag, c.in-Ok.next) ≡ byte_at m.source.symbol.now c.paths.at = rw (c.paths.invariant.parser, c.in-Ok.is) at c.tag.ensures.read in
     deep_other g.V.Output m c.tagged_path.new.self c.args.output.now c.tagged_path.new.output m.state.depth_left c.paths.count c.paths.at c.in-Ok.tag c.in-Ok.next c.paths.self.looks c.tag.new.looks c.tagged_path.result (omega (arith, c.paths-test.true)) read c.tag.ensures.look
-    (rw (c.push_names-then-tag-ne78.ensures, c.paths.invariant.parser, c.paths.invariant.output) at c.tagged_path.ensures.performs)
+    (rw (c.push_names-then-tag-ne78.ensures, c.paths.invariant.parser, c.paths.invariant.output) at c.tagged_path.ensures)
 
 pub returns-then-tag-ne78-clause-performs : goal.returns-then-tag-ne78-clause-performs
 returns-then-tag-ne78-clause-performs g c = deep_last g.V.Output c.args.self.now c.tagged_path.new.self c.args.output.now c.tagged_path.new.output c.args.self.now.state.depth_left c.paths.count c.paths.at c.paths.self.looks c.tagged_path.result c.paths.invariant.ran (otherwise-clause-performs g c)

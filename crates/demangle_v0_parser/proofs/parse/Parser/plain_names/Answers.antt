@@ -1,15 +1,10 @@
-use Rattle.std.proofs.Common.{◌≡◌, ◌+◌, ◌-◌, ◌<◌, Ok, None, arith, refl, sym, subst, ap, ◌∙◌}
+use Rattle.std.proofs.Common.{◌≡◌, ◌+◌, ◌-◌, Ok, None, arith, refl, sym, ap, ◌∙◌}
 use Rattle.demangle_v0_parser.specs.Frames.{Stack}
-use Rattle.demangle_v0_parser.specs.Parsers.{KeepsFuel, Performed}
+use Rattle.demangle_v0_parser.specs.Parsers.{Performed}
 use Rattle.demangle_v0_parser.specs.declared.Continuation.TheVariants as continuation
-use Rattle.demangle_v0_parser.specs.declared.fuel.Fuel.{Fuel}
 use Rattle.demangle_v0_parser.specs.declared.parse.Parser.{Parser}
 use Rattle.demangle_v0_parser.proofs.NestedNames.{named, named_runs, named_stops, named_ends}
 use Rattle.demangle_v0_parser.proofs.parse.Parser.plain_names.Goals as goal
-
--- the fuel after a further name
-keeps_on : (m k n : Parser) → KeepsFuel m k → KeepsFuel k n → KeepsFuel m n
-keeps_on m k n p q some = let e = q some in e ∙ p (subst (λ (f : Fuel). 0 < f.left) e some)
 
 pub returns-in-Err-clause-end : goal.returns-in-Err-clause-end
 returns-in-Err-clause-end g c p before x below =
@@ -18,9 +13,6 @@ returns-in-Err-clause-end g c p before x below =
     let one : c.names.left ≡ left + 1 = omega arith in
     named_stops g.V.Output c.args.self.now k c.nested_name.new.self c.push_names.new.self c.names.output c.nested_name.new.output c.args.outer left c.in-Err.stop p before c.names.invariant.source (below ∙ sym (ap (λ (z : Stack). z.frames) c.names.invariant.stack)) c.nested_name.ensures.placed c.push_names.ensures
     (rw c.in-Err.is at c.nested_name.ensures.performs) (rw one at (c.names.invariant.ran p before x))
-
-pub returns-in-Err-clause-fuel : goal.returns-in-Err-clause-fuel
-returns-in-Err-clause-fuel g c = rw c.push_names.ensures (keeps_on c.args.self.now c.names.self c.nested_name.new.self c.names.invariant.fuel c.nested_name.ensures.fuel)
 
 pub returns-in-Err-clause-most : goal.returns-in-Err-clause-most
 returns-in-Err-clause-most g c = rw c.push_names.ensures (omega (arith, rw c.names.invariant.source at c.nested_name.ensures.most, c.names.invariant.reads, c.names.invariant.bound))
@@ -42,7 +34,6 @@ names-preserved g c =
       lifetimes = ap (λ (z : Parser). z.state.lifetimes) placed ∙ c.names.invariant.lifetimes;
       no_pending_text = no_text;
       grows = omega (arith, c.names.invariant.grows, performs.does.grows);
-      fuel = keeps_on c.args.self.now k n c.names.invariant.fuel c.nested_name.ensures.fuel;
       reads = omega (arith, rw c.names.invariant.source at ((rw ends at c.nested_name.ensures.reads) refl), c.names.invariant.reads, c.names.invariant.bound);
       ready = performs.does.ready c.names.invariant.ready refl;
       ran = λ p before x. named_runs g.V.Output c.args.self.now k n c.names.output c.nested_name.new.output c.args.outer left p before c.names.invariant.source c.nested_name.ensures.placed no_text performs (rw one at (c.names.invariant.ran p before x));
@@ -52,9 +43,6 @@ pub returns-clause-end : goal.returns-clause-end
 returns-clause-end g c p before x below =
     let k = c.names.self in
     named_ends g.V.Output c.args.self.now k c.names.output c.args.outer c.names.left p before c.names-test.false (below ∙ sym (ap (λ (z : Stack). z.frames) c.names.invariant.stack)) c.names.invariant.no_pending_text (c.names.invariant.ran p before x)
-
-pub returns-clause-fuel : goal.returns-clause-fuel
-returns-clause-fuel g c = c.names.invariant.fuel
 
 pub returns-clause-reads : goal.returns-clause-reads
 returns-clause-reads g c = λ _. omega (arith, c.names.invariant.reads)

@@ -1,6 +1,6 @@
 use Rattle.std.specs.Prelude.{◌*◌}
 use Rattle.std.proofs.Common.{◌≡◌, ◌+◌, ◌-◌, ◌≤◌, None, length}
-use Rattle.demangle_v0_parser.specs.Parsers.{KeepsFuel, env_of, left_at, machine_over}
+use Rattle.demangle_v0_parser.specs.Parsers.{env_of, left_at, machine_over}
 use Rattle.demangle_v0_parser.specs.Steps.{Machine}
 use Rattle.demangle_v0_parser.specs.StepRuns.{Runs, bare, name_frames}
 use Rattle.demangle_v0_parser.specs.declared.Continuation.{Continuation}
@@ -17,7 +17,6 @@ invariant-names g l =
       lifetimes : l.self.state.lifetimes ≡ m.state.lifetimes;
       no_pending_text : l.self.state.pending_text ≡ None;
       grows : m.looks ≤ l.self.looks;
-      fuel : KeepsFuel m l.self;
       reads : l.self.looks + 4 * left_at (length m.source.symbol.now) l.self.state.place ≤ m.looks + 4 * left_at (length m.source.symbol.now) m.state.place + 5 * (l.count - l.left);
       ready : g.V.Output.ready l.output;
       ran : (p : Continuation) (before : Machine _) → Runs (env_of g.V.Output m) p (bare before) continuation.End (machine_over (name_frames m.state.in_value m.state.lifetimes l.outer l.count) m l.initial.output) → Runs (env_of g.V.Output m) p (bare before) continuation.End (machine_over (name_frames l.self.state.in_value l.self.state.lifetimes l.outer l.left) l.self l.output);

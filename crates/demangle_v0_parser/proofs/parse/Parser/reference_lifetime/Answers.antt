@@ -4,15 +4,15 @@ use Rattle.demangle_v0_parser.proofs.LifetimeSteps.{lifetime_unread, lifetime_st
 use Rattle.demangle_v0_parser.proofs.parse.Parser.reference_lifetime.Goals.{then-index-eq0-via-then-index-eq0, then-index-eq0-via-else-index-eq0+then-not-is_printing}
 use Rattle.demangle_v0_parser.proofs.parse.Parser.reference_lifetime.Goals as goal
 
-pub returns-in_err-at-clause-performs : goal.returns-in_err-at-clause-performs
-returns-in_err-at-clause-performs g c = record {
+pub returns-in_err-at : goal.returns-in_err-at
+returns-in_err-at g c = record {
   does = rw (stops c.from_residual.result c.from_residual.ensures.1 c.in_err-at.ensures.failed.1)
       (lifetime_unread c.args.is_mut c.in_err-at.ensures.failed.0 c.requires.can_step.no_pending_text);
   same = (refl, refl, refl);
 }
 
-pub returns-in_err-index-clause-performs : goal.returns-in_err-index-clause-performs
-returns-in_err-index-clause-performs g c = record {
+pub returns-in_err-index : goal.returns-in_err-index
+returns-in_err-index g c = record {
   does = rw (stops_invalid c.from_residual-in_err-index.result c.from_residual-in_err-index.ensures.1
       c.in_err-index.ensures.fault) (lifetime_stops c.args.is_mut c.in_ok-at.at c.in_ok-at.ensures.ok
       c.in_err-index.ensures.read
@@ -21,8 +21,8 @@ returns-in_err-index-clause-performs g c = record {
   same = (refl, refl, refl);
 }
 
-pub returns-then-index-eq0-clause-performs : goal.returns-then-index-eq0-clause-performs
-returns-then-index-eq0-clause-performs g c = rw c.after_reference_lifetime.ensures (record {
+pub returns-then-index-eq0 : goal.returns-then-index-eq0
+returns-then-index-eq0 g c = rw c.after_reference_lifetime.ensures (record {
   does = elim c.then-index-eq0.branch [
     | then-index-eq0-via-then-index-eq0 w ↦ lifetime_unnamed c.args.is_mut c.in_ok-at.at c.in_ok-index.index
         c.in_ok-index.next (record {
@@ -44,8 +44,8 @@ returns-then-index-eq0-clause-performs g c = rw c.after_reference_lifetime.ensur
   same = (refl, refl, refl);
 })
 
-pub returns-in_err-emit-clause-performs : goal.returns-in_err-emit-clause-performs
-returns-in_err-emit-clause-performs g c = let e = c.in_err-emit.ensures in let x = c.spaced_lifetime-token.ensures in rw e.parser (record {
+pub returns-in_err-emit : goal.returns-in_err-emit
+returns-in_err-emit g c = let e = c.in_err-emit.ensures in let x = c.spaced_lifetime-token.ensures in rw e.parser (record {
   does = rw (stops c.from_residual-in_err-emit.result c.from_residual-in_err-emit.ensures.1 refl) (lifetime_refused
       c.args.is_mut c.in_ok-at.at c.in_ok-index.index c.in_ok-index.next _ _ (record {
         at = c.in_ok-at.ensures.ok;
@@ -61,8 +61,8 @@ returns-in_err-emit-clause-performs g c = let e = c.in_err-emit.ensures in let x
   same = (refl, refl, refl);
 })
 
-pub returns-clause-performs : goal.returns-clause-performs
-returns-clause-performs g c = let e = c.in_ok-emit.ensures in let x = c.spaced_lifetime-token.ensures in rw (c.after_reference_lifetime-2.ensures, e.parser) (record {
+pub returns : goal.returns
+returns g c = let e = c.in_ok-emit.ensures in let x = c.spaced_lifetime-token.ensures in rw (c.after_reference_lifetime-2.ensures, e.parser) (record {
   does = lifetime_tells c.args.is_mut c.in_ok-at.at c.in_ok-index.index c.in_ok-index.next _ _ (record {
     at = c.in_ok-at.ensures.ok;
     is = c.in_ok-index.ensures.read;

@@ -5,10 +5,10 @@ use Rattle.demangle_v0_parser.proofs.ListSteps.{second_closes, second_continues}
 use Rattle.demangle_v0_parser.proofs.TupleSteps.{next_type}
 use Rattle.demangle_v0_parser.proofs.parse.Parser.second_tuple_type.Goals as goal
 
-pub returns-then-ends_list-clause-performs : goal.returns-then-ends_list-clause-performs
+pub returns-then-ends_list : goal.returns-then-ends_list
 unfolding trace_at
-returns-then-ends_list-clause-performs c = λ p. rw (c.put.ensures, c.ends_list.ensures.place) (record { does = second_closes type_inside refl (sym c.ends_list.ensures.over ∙ c.if-ends_list.true) refl c.ends_list.ensures.within_budget (omega arith) (omega arith) c.requires.can_step.fits; same = (refl, refl, refl) })
+returns-then-ends_list c = λ p. rw (c.put.ensures, c.ends_list.ensures.place) (record { does = second_closes type_inside refl (sym c.ends_list.ensures.over ∙ c.if-ends_list.true) refl c.ends_list.ensures.within_budget (omega arith) (omega arith) c.requires.can_step.fits; same = (refl, refl, refl) })
 
-pub returns-clause-performs : goal.returns-clause-performs
+pub returns : goal.returns
 unfolding trace_at
-returns-clause-performs c = λ p. rw (c.put-2.ensures, c.push.ensures, c.ends_list.ensures.place) (record { does = second_continues (next_type _) refl (sym c.ends_list.ensures.over ∙ c.if-ends_list.false) refl c.ends_list.ensures.within_budget (omega arith) c.requires.can_step.fits refl; same = (refl, refl, refl) })
+returns c = λ p. rw (c.put-2.ensures, c.push.ensures, c.ends_list.ensures.place) (record { does = second_continues (next_type _) refl (sym c.ends_list.ensures.over ∙ c.if-ends_list.false) refl c.ends_list.ensures.within_budget (omega arith) c.requires.can_step.fits refl; same = (refl, refl, refl) })

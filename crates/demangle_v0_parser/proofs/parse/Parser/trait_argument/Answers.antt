@@ -3,15 +3,15 @@ use Rattle.demangle_v0_parser.proofs.DynTraitSteps.{open_over, open_on}
 use Rattle.demangle_v0_parser.proofs.ListSteps.{paid_on}
 use Rattle.demangle_v0_parser.proofs.parse.Parser.trait_argument.Goals as goal
 
-pub returns-in_default-clause-performs : goal.returns-in_default-clause-performs
-returns-in_default-clause-performs c = λ p w. rw c.element_place.ensures.place (record {
+pub returns-in_default : goal.returns-in_default
+returns-in_default c = λ p w. rw c.element_place.ensures.place (record {
   does = open_over c.args.is_first w c.in_default.ensures.over refl c.element_place.ensures.within_budget
       c.requires.can_step.no_pending_text;
   same = (refl, refl, refl);
 })
 
-pub returns-clause-performs : goal.returns-clause-performs
-returns-clause-performs c =
+pub returns : goal.returns
+returns c =
     let element = c.in-Some.ensures.element in
     let looked = paid_on _ c.element_place.ensures.within_budget in
     λ p w. rw (c.argument.ensures.continuation, c.argument.ensures.parser, c.push.ensures, c.element_place.ensures.place) (record {

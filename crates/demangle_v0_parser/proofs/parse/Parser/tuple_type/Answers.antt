@@ -5,6 +5,6 @@ use Rattle.demangle_v0_parser.specs.declared.Continuation.TheVariants as continu
 use Rattle.demangle_v0_parser.proofs.StepCases.{marks}
 use Rattle.demangle_v0_parser.proofs.parse.Parser.tuple_type.Goals as goal
 
-pub returns-clause-performs : goal.returns-clause-performs
+pub returns : goal.returns
 unfolding parse trace_at
-returns-clause-performs c = λ p. rw c.put.ensures (record { does = marks continuation.FirstTupleType refl (omega arith) (omega arith) (omega (arith, c.requires.can_step.fits)); same = (refl, refl, refl) })
+returns c = λ p. rw c.put.ensures (record { does = marks continuation.FirstTupleType refl (omega arith) (omega arith) (omega (arith, c.requires.can_step.fits)); same = (refl, refl, refl) })

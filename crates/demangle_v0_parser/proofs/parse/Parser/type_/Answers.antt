@@ -10,25 +10,25 @@ use Rattle.demangle_v0_parser.proofs.TypeSteps.{splat_missing, splat_not, splat_
 use Rattle.demangle_v0_parser.proofs.parse.Parser.type_.Goals as goal
 use Rattle.demangle_v0_parser.proofs.parse.Parser.type_.Goals.{else-may_have_splat-via-then-may_have_splat+else-tag-eq119, else-may_have_splat-via-else-may_have_splat}
 
-pub returns-in_default-clause-performs : goal.returns-in_default-clause-performs
+pub returns-in_default : goal.returns-in_default
 unfolding parse trace_at
-returns-in_default-clause-performs g c =
+returns-in_default g c =
     let is = c.in_default.is in
     record {
       does = type_either c.args.may_have_splat (λ _. after_error c.requires.can_step.no_pending_text (rw is refl) (omega arith)) (λ _. after_error c.requires.can_step.no_pending_text (rw is refl) (omega arith));
       same = (refl, refl, refl);
     }
 
-pub returns-in_default-byte-clause-performs : goal.returns-in_default-byte-clause-performs
-returns-in_default-byte-clause-performs g c = record {
+pub returns-in_default-byte : goal.returns-in_default-byte
+returns-in_default-byte g c = record {
   does = type_tagged c.args.may_have_splat c.in-Some.at c.in-Some.is
       (λ _. splat_missing c.args.self.now.source.symbol.now c.in-Some.at c.in_default-byte.ensures.byte)
       (no_tag c.in-Some.at c.in-Some.is c.in_default-byte.ensures.byte c.byte.ensures.look c.requires.can_step.no_pending_text);
   same = (refl, refl, refl);
 }
 
-pub returns-in-Some-basic_type_text-clause-performs : goal.returns-in-Some-basic_type_text-clause-performs
-returns-in-Some-basic_type_text-clause-performs g c =
+pub returns-in-Some-basic_type_text : goal.returns-in-Some-basic_type_text
+returns-in-Some-basic_type_text g c =
     let x = c.in-Some-byte.tag in
     let m = c.in-Some-basic_type_text.pending_text in
     rw (c.end_with.ensures.end, c.end_with.ensures.with_text) (record {
@@ -38,8 +38,8 @@ returns-in-Some-basic_type_text-clause-performs g c =
       same = (refl, refl, refl);
     })
 
-pub returns-in_err-enter-clause-performs : goal.returns-in_err-enter-clause-performs
-returns-in_err-enter-clause-performs g c =
+pub returns-in_err-enter : goal.returns-in_err-enter
+returns-in_err-enter g c =
     let deep = c.in_err-enter.ensures.deep in
     let x = c.in-Some-byte.tag in
     rw deep.2 (record {
@@ -49,10 +49,10 @@ returns-in_err-enter-clause-performs g c =
       same = (refl, refl, refl);
     })
 
-pub returns-then-tag-eq82-clause-performs : goal.returns-then-tag-eq82-clause-performs
-returns-then-tag-eq82-clause-performs g c =
+pub returns-then-tag-eq82 : goal.returns-then-tag-eq82
+returns-then-tag-eq82 g c =
     let ok = c.in_ok-enter.ensures.ok in
-    let d = rw ok.1 at (advanced_rest g.V.Output c.args.output.now _ 5 50 9 c.reference_type.ensures.performs) in
+    let d = rw ok.1 at (advanced_rest g.V.Output c.args.output.now _ 5 50 9 c.reference_type.ensures) in
     let x = c.in-Some-byte.tag in
     record {
       does = type_tagged c.args.may_have_splat c.in-Some.at c.in-Some.is
@@ -61,8 +61,8 @@ returns-then-tag-eq82-clause-performs g c =
       same = d.same;
     }
 
-pub returns-then-tag-eq119-clause-performs : goal.returns-then-tag-eq119-clause-performs
-returns-then-tag-eq119-clause-performs g c = rw c.put.ensures (record {
+pub returns-then-tag-eq119 : goal.returns-then-tag-eq119
+returns-then-tag-eq119 g c = rw c.put.ensures (record {
   does = type_either c.args.may_have_splat
       (λ _. type_splats c.in-Some.at c.in-Some.is
       (splat_there c.args.self.now.source.symbol.now c.in-Some.at c.in-Some-byte.tag c.in-Some-byte.ensures.byte c.if-tag-eq119.true)
@@ -71,8 +71,8 @@ returns-then-tag-eq119-clause-performs g c = rw c.put.ensures (record {
   same = (refl, refl, refl);
 })
 
-pub returns-in_err-enter-2-clause-performs : goal.returns-in_err-enter-2-clause-performs
-returns-in_err-enter-2-clause-performs g c =
+pub returns-in_err-enter-2 : goal.returns-in_err-enter-2
+returns-in_err-enter-2 g c =
     let deep = c.in_err-enter-2.ensures.deep in
     let x = c.in-Some-byte.tag in
     let plain : c.args.may_have_splat ≡ true → x ≢ 119 = λ e. elim c.else-may_have_splat.branch [
@@ -86,8 +86,8 @@ returns-in_err-enter-2-clause-performs g c =
       same = (refl, refl, refl);
     })
 
-pub returns-in_default-type_kind-clause-performs : goal.returns-in_default-type_kind-clause-performs
-returns-in_default-type_kind-clause-performs g c =
+pub returns-in_default-type_kind : goal.returns-in_default-type_kind
+returns-in_default-type_kind g c =
     let ok = c.in_ok-enter-2.ensures.ok in
     let x = c.in-Some-byte.tag in
     let plain : c.args.may_have_splat ≡ true → x ≢ 119 = λ e. elim c.else-may_have_splat.branch [
@@ -101,8 +101,8 @@ returns-in_default-type_kind-clause-performs g c =
       same = (refl, refl, refl);
     })
 
-pub returns-in_err-enter-3-clause-performs : goal.returns-in_err-enter-3-clause-performs
-returns-in_err-enter-3-clause-performs g c =
+pub returns-in_err-enter-3 : goal.returns-in_err-enter-3
+returns-in_err-enter-3 g c =
     let deep = c.in_err-enter-3.ensures.deep in
     let x = c.in-Some-byte.tag in
     rw deep.2 (record {
@@ -112,10 +112,10 @@ returns-in_err-enter-3-clause-performs g c =
       same = (refl, refl, refl);
     })
 
-pub returns-clause-performs : goal.returns-clause-performs
-returns-clause-performs g c =
+pub returns : goal.returns
+returns g c =
     let ok = c.in_ok-enter-3.ensures.ok in
-    let d = rw ok.1 at c.type_after_tag.ensures.performs in
+    let d = rw ok.1 at c.type_after_tag.ensures in
     let x = c.in-Some-byte.tag in
     record {
       does = type_tagged c.args.may_have_splat c.in-Some.at c.in-Some.is
