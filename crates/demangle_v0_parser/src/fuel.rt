@@ -3,8 +3,8 @@
 //! A back reference may lead to bytes that were read before, and these to others. So a run that may
 //! be no symbol is not printed to its end in any case. Outside of references a print reads each byte
 //! once, as validation does. Within them it has only a little fuel: some from its start, and some for
-//! each byte that it read outside. If that is used up, the print stops, and its caller validates the
-//! symbol. Only a valid one is printed on.
+//! each byte that it read outside. If that is used up, the print gives up, and the run is read. A
+//! symbol is then printed once more.
 //!
 //! The fuel only says where a print stops. The limit of the bytes that are read again bounds its
 //! looks.

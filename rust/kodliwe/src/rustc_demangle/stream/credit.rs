@@ -42,8 +42,8 @@ impl Credit {
         self.owed <= MOST_SAVED
     }
 
-    /// Takes account of a run that is no symbol, of which so many bytes were printed, and whose
-    /// references used up so much fuel. Only v0 runs count, because few bytes of others are printed before it is known.
+    /// Takes account of a run that is no symbol, for which so many bytes were printed and so much fuel
+    /// was used up. Only v0 runs count, because few bytes of others are printed before it is known.
     #[cfg_attr(not(debug_assertions), inline(always))]
     pub(super) fn lose(&mut self, run: &str, printed: usize, fuel: usize) {
         if starts_as_v0(run.as_bytes()) {
